@@ -1,0 +1,6 @@
+pub mod BoolLaws
+pub mod RefuseLaws
+pub mod SearchLaws
+pub mod PairLaws
+pub mod RowsLaws
+pub mod PowerLaws

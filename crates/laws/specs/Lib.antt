@@ -1,0 +1,5 @@
+pub mod Pick
+pub mod Refuse
+pub mod Search
+pub mod Rows
+pub mod Power

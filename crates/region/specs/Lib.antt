@@ -1,0 +1,3 @@
+pub mod Sound
+pub mod Overlap
+pub mod List

@@ -1,0 +1,74 @@
+-- A region list: records of three words, base, size and attr; attr is never read. The first `count` are judged.
+--   recordAt ws i      == record i of the words ws
+--   judged at have n   == what is found of n records, `at` giving each, where there are `have` of them
+--   numberOf, placesOf == the number of the paper for an answer, and the indices that it names
+--   listNo, listPlaces == the number that is due, in the order of the paper, and the indices
+use mathlib.Core.Bool.{Bool, not}
+use mathlib.Core.List.{List, [], _∷_}
+use Prim.Native.Nat.{ℕ, _+_, _*_, _/_}
+use lib.Dec.{ltb, eqb}
+use lib.ListN.{length, getD}
+use Rattle.laws.specs.Pick.{pick}
+use Rattle.laws.specs.Refuse.{_⇒_, refuse}
+use Rattle.laws.specs.Search.{lowest, some, paired, pairLow, pairHigh}
+use Rattle.region.specs.declared.Range.{Range}
+use Rattle.region.specs.declared.Judged.{Judged}
+use Rattle.region.specs.declared.Judged.the-variants.{Valid, Short, Unsound, Pair}
+use Rattle.region.specs.Sound.{regionNo}
+use Rattle.region.specs.Overlap.{overlaps}
+
+abbrev pub wordsEach : ℕ
+wordsEach = 3
+
+abbrev pub recordAt : List ℕ → ℕ → Range
+recordAt ws i = record { base = getD ws (wordsEach * i) 0; size = getD ws (wordsEach * i + 1) 0 }
+
+abbrev pub numberAt : (ℕ → Range) → ℕ → ℕ
+numberAt at i = regionNo (at i .base) (at i .size)
+
+abbrev pub unsound : (ℕ → Range) → ℕ → Bool
+unsound at i = not (eqb (numberAt at i) 0)
+
+abbrev pub meeting : (ℕ → Range) → ℕ → ℕ → Bool
+meeting at i j = overlaps (at i) (at j)
+
+-- the lowest unsound record
+abbrev pub culprit : (ℕ → Range) → ℕ → ℕ
+culprit at n = lowest (unsound at) 0 n
+
+-- all records being sound: the first pair that overlaps, or none
+unfoldable pub pairOf : (ℕ → Range) → ℕ → Judged
+pairOf at n = pick (some (paired (meeting at) n) 0 n) (Pair (pairLow (meeting at) n) (pairHigh (meeting at) n)) Valid
+
+unfoldable pub judged : (ℕ → Range) → ℕ → ℕ → Judged
+judged at have n =
+    pick (ltb have n) Short
+    (pick (some (unsound at) 0 n) (Unsound (culprit at n) (numberAt at (culprit at n))) (pairOf at n))
+
+-- how many whole records the words hold
+abbrev pub records : List ℕ → ℕ
+records ws = length ws / wordsEach
+
+-- ---- the same in the numbers of the paper: 8 before any region is read, then the lowest unsound record's, then 6
+unfoldable pub listNo : (ℕ → Range) → ℕ → ℕ → ℕ
+listNo at have n =
+    refuse
+    ((ltb have n ⇒ 8) ∷ (some (unsound at) 0 n ⇒ numberAt at (culprit at n)) ∷ (some (paired (meeting at) n) 0 n ⇒ 6) ∷ [])
+
+unfoldable pub listPlaces : (ℕ → Range) → ℕ → ℕ → List ℕ
+listPlaces at have n =
+    pick (ltb have n) []
+    (pick (some (unsound at) 0 n) (culprit at n ∷ [])
+    (pick (some (paired (meeting at) n) 0 n) (pairLow (meeting at) n ∷ pairHigh (meeting at) n ∷ []) []))
+
+abbrev pub numberOf : Judged → ℕ
+numberOf Valid = 0
+numberOf Short = 8
+numberOf (Unsound at k) = k
+numberOf (Pair i j) = 6
+
+abbrev pub placesOf : Judged → List ℕ
+placesOf Valid = []
+placesOf Short = []
+placesOf (Unsound at k) = at ∷ []
+placesOf (Pair i j) = i ∷ j ∷ []

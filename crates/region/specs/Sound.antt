@@ -1,0 +1,35 @@
+-- A region that the MPU can hold.
+--   soundness base size == what refuses one region, in the order of the paper: 2, 3, 4, 5
+--   regionNo base size  == the number of the first that holds; 0 for a sound region
+--   Sound base size     == the four conditions of the paper, as facts
+use mathlib.Core.Path.{_≡_}
+use mathlib.Core.Bool.{not}
+use mathlib.Core.List.{List, [], _∷_}
+use Prim.Native.Nat.{ℕ, _+_, _%_, _≤_}
+use lib.Dec.{ltb, eqb}
+use Rattle.laws.specs.Power.{isPow2, Pow2}
+use Rattle.laws.specs.Refuse.{Refusal, _⇒_, refuse}
+
+abbrev pub minRegionSize : ℕ
+minRegionSize = 32
+
+abbrev pub lastByte : ℕ
+lastByte = 4294967295
+
+unfoldable pub soundness : ℕ → ℕ → List Refusal
+soundness base size =
+    (not (isPow2 size) ⇒ 2)
+    ∷ (ltb size minRegionSize ⇒ 3)
+    ∷ (not (eqb (base % size) 0) ⇒ 4)
+    ∷ (ltb lastByte (base + size) ⇒ 5)
+    ∷ []
+
+unfoldable pub regionNo : ℕ → ℕ → ℕ
+unfolding soundness
+regionNo base size = refuse (soundness base size)
+
+pub record Sound (base size : ℕ) : Type 0 where
+  pub power : Pow2 size
+  pub least : minRegionSize ≤ size
+  pub multiple : base % size ≡ 0
+  pub fits : base + size ≤ lastByte
