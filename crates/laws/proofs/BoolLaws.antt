@@ -1,6 +1,6 @@
 -- A test taken apart, and two tests compared, by their two cases. Assumes nothing.
-use mathlib.Core.Path.{_≡_, refl, sym}
-use mathlib.Core.Bool.{Bool, true, false, _&&_, true≢false}
+use mathlib.Core.Path.{_≡_, refl, sym, _∙_}
+use mathlib.Core.Bool.{Bool, true, false, _&&_, _||_, true≢false}
 use mathlib.Core.Logic.{_↔_}
 use Rattle.laws.specs.Pick.{pick}
 
@@ -22,3 +22,32 @@ same-test false false h = refl
 pub pick-ap : {X Y : Type 0} (g : X → Y) (b : Bool) (x y : X) → g (pick b x y) ≡ pick b (g x) (g y)
 pick-ap g true x y = refl
 pick-ap g false x y = refl
+
+-- a test fails exactly if what it means does not hold
+pub fails-exactly : {b : Bool} {P : Type 0} → (b ≡ true) ↔ P → (b ≡ false) ↔ ¬ P
+fails-exactly {b} {P} m = (λ e p. true≢false (sym (m .1 p) ∙ e), by b m)
+  where
+    by : (b : Bool) → (b ≡ true) ↔ P → ¬ P → b ≡ false
+    by true m n = absurd (n (m .0 refl))
+    by false m n = refl
+
+pub both : {a b : Bool} → a ≡ true → b ≡ true → (a && b) ≡ true
+both {a} {b} p q = rw (p, q)
+
+pub or-left : (a b : Bool) → (a || b) ≡ false → a ≡ false
+or-left true b e = e
+or-left false b e = refl
+
+pub or-right : (a b : Bool) → (a || b) ≡ false → b ≡ false
+or-right true b e = absurd (true≢false e)
+or-right false b e = e
+
+pub neither : {a b : Bool} → a ≡ false → b ≡ false → (a || b) ≡ false
+neither {a} {b} p q = rw (p, q)
+
+pub holds-unless : {b : Bool} → (b ≡ false → ⊥) → b ≡ true
+holds-unless {b} = by b
+  where
+    by : (b : Bool) → (b ≡ false → ⊥) → b ≡ true
+    by true n = refl
+    by false n = absurd (n refl)

@@ -6,16 +6,8 @@ use mathlib.Core.Logic.{_↔_}
 use Prim.Native.Nat.{ℕ, _+_, _≤_, _<_, zero-le}
 use native.Mathlib.Omega.{arith}
 use borrow.Author.Tests.{ltb-true, lt-ltb, le-ltb}
-use Rattle.laws.specs.Search.{lowest, some, paired, pairLow, pairHigh}
-use Rattle.laws.proofs.SearchLaws.{Least, lowest-here, lowest-next, lowest-least, least-one, none-exactly}
-
--- i < j below n pass, none before does: no pair with a lower first place, and none of i with a lower second
-pub record FirstPair (f : ℕ → ℕ → Bool) (n i j : ℕ) : Type 0 where
-  pub ordered : i < j
-  pub within : j < n
-  pub passes : f i j ≡ true
-  pub earlier : (a b : ℕ) → a < i → a < b → b < n → f a b ≡ false
-  pub nearer : (b : ℕ) → i < b → b < j → f i b ≡ false
+use Rattle.laws.specs.Search.{lowest, some, paired, pairLow, pairHigh, Least, FirstPair}
+use Rattle.laws.proofs.SearchLaws.{lowest-here, lowest-next, lowest-least, least-one, none-exactly}
 
 -- ---- how the two loops take the search on: `left` says that the pairs of the places before i are passed
 module _ (f : ℕ → ℕ → Bool) (n : ℕ) {i : ℕ} (left : pairLow f n ≡ lowest (paired f n) i n) (h : i < n) where

@@ -13,9 +13,10 @@ use lib.Dec.{ltb, eqb}
 use lib.Pow.{pow-mono, pow-lt, pow-pos}
 use lib.Arith.{bin-ind}
 use lib.Bits.{bitAnd, and-step, and-mask, and-self}
+use Rattle.laws.specs.Search.{Least}
 use Rattle.laws.specs.Power.{log2, isPow2, Pow2}
 use Rattle.laws.proofs.BoolLaws.{same-test}
-use Rattle.laws.proofs.SearchLaws.{Least, lowest-least, least-one}
+use Rattle.laws.proofs.SearchLaws.{lowest-least, least-one}
 
 pub log2-pow : (k : ℕ) → k ≤ 32 → log2 (2 ^ k) ≡ k
 unfolding log2
@@ -40,6 +41,13 @@ pow2-exactly n h = (λ e. (log2 n, sym (eqb-true (2 ^ log2 n) n e)), λ p. eq-eq
     own k e =
         let l : k < 32 = pow-below k 32 (subst (λ (m : ℕ). m < 2 ^ 32) e h) in
         rw (e, log2-pow k (omega arith))
+
+pub pow-double : (j : ℕ) → 2 ^ j * 2 ≡ 2 ^ (j + 1)
+pow-double j = sym (rw (add-one j) (pow-suc 2 j))
+
+-- from a power to the next that is not above n
+pub next-power : (j : ℕ) {n : ℕ} → Pow2 n → 2 ^ j < n → 2 ^ (j + 1) ≤ n
+next-power j {n} p h = subst (λ (m : ℕ). 2 ^ (j + 1) ≤ m) (sym (p .1)) (pow-mono {i = j + 1} {j = p .0} (omega (arith, pow-below j (p .0) (subst (λ (m : ℕ). 2 ^ j < m) (p .1) h))))
 
 -- ---- one digit
 mask-pow : (k : ℕ) → bitAnd (2 ^ k) (2 ^ k - 1) ≡ 0

@@ -11,7 +11,7 @@ use native.Mathlib.Omega.{arith}
 use borrow.Author.Tests.{ltb-true, ltb-false, lt-ltb, le-ltb, not-true, not-false}
 use lib.Dec.{ltb}
 use Rattle.laws.specs.Pick.{pick}
-use Rattle.laws.specs.Search.{first, lowest, highest, some, every}
+use Rattle.laws.specs.Search.{first, lowest, highest, some, every, Least, Greatest}
 
 -- ---- lowest, from the front
 module _ (f : ℕ → Bool) where
@@ -32,13 +32,6 @@ module _ (f : ℕ → Bool) where
   lowest-end {i} {m} h =
       let left : m - i ≡ 0 = omega arith in
       rw left
-
--- r is the least place from i on, below m, that passes; m, where none does
-pub record Least (f : ℕ → Bool) (i m r : ℕ) : Type 0 where
-  pub from : i ≤ r
-  pub within : r ≤ m
-  pub passes : r < m → f r ≡ true
-  pub none : (k : ℕ) → i ≤ k → k < r → f k ≡ false
 
 module _ (f : ℕ → Bool) where
   first-least : (n i m : ℕ) → i + n ≡ m → Least f i m (first f i n)
@@ -111,12 +104,6 @@ module _ (f : ℕ → Bool) where
   unfolding highest
   highest-next zero h e = refl
   highest-next (suc n) h e = let p : suc n - 1 ≡ n = omega arith in rw (p, rw p at e)
-
--- r is one more than the greatest place below n that passes; 0, where none does
-pub record Greatest (f : ℕ → Bool) (n r : ℕ) : Type 0 where
-  pub within : r ≤ n
-  pub passes : 0 < r → f (r - 1) ≡ true
-  pub none : (k : ℕ) → r ≤ k → k < n → f k ≡ false
 
 module _ (f : ℕ → Bool) where
   pub highest-greatest : (n : ℕ) → Greatest f n (highest f n)

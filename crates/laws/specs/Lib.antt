@@ -3,3 +3,4 @@ pub mod Refuse
 pub mod Search
 pub mod Rows
 pub mod Power
+pub mod Cases

@@ -1,1 +1,6 @@
+pub mod SoundLaws
+pub mod OverlapLaws
 pub mod ListLaws
+pub mod UnreadLaws
+pub mod Determined
+pub mod Worked

@@ -1,3 +1,4 @@
 pub mod Sound
 pub mod Overlap
 pub mod List
+pub mod Worked

@@ -3,14 +3,16 @@
 --   judged at have n   == what is found of n records, `at` giving each, where there are `have` of them
 --   numberOf, placesOf == the number of the paper for an answer, and the indices that it names
 --   listNo, listPlaces == the number that is due, in the order of the paper, and the indices
-use mathlib.Core.Bool.{Bool, not}
+--   Says at have n r   == what the answer r says of the list, as facts
+use mathlib.Core.Path.{_≡_}
+use mathlib.Core.Bool.{Bool, false, not}
 use mathlib.Core.List.{List, [], _∷_}
-use Prim.Native.Nat.{ℕ, _+_, _*_, _/_}
+use Prim.Native.Nat.{ℕ, _+_, _*_, _/_, _≤_, _<_}
 use lib.Dec.{ltb, eqb}
 use lib.ListN.{length, getD}
 use Rattle.laws.specs.Pick.{pick}
 use Rattle.laws.specs.Refuse.{_⇒_, refuse}
-use Rattle.laws.specs.Search.{lowest, some, paired, pairLow, pairHigh}
+use Rattle.laws.specs.Search.{lowest, some, paired, pairLow, pairHigh, FirstPair}
 use Rattle.region.specs.declared.Range.{Range}
 use Rattle.region.specs.declared.Judged.{Judged}
 use Rattle.region.specs.declared.Judged.the-variants.{Valid, Short, Unsound, Pair}
@@ -72,3 +74,20 @@ placesOf Valid = []
 placesOf Short = []
 placesOf (Unsound at k) = at ∷ []
 placesOf (Pair i j) = i ∷ j ∷ []
+
+-- ---- what an answer says
+abbrev pub AllSound : (ℕ → Range) → ℕ → Type 0
+AllSound at n = (i : ℕ) → i < n → numberAt at i ≡ 0
+
+abbrev pub Apart : (ℕ → Range) → ℕ → Type 0
+Apart at n = (i j : ℕ) → i < j → j < n → overlaps (at i) (at j) ≡ false
+
+-- i < j overlap; no pair has a lower first record, and none of i a lower second
+abbrev pub First : (ℕ → Range) → ℕ → ℕ → ℕ → Type 0
+First at n i j = FirstPair (meeting at) n i j
+
+abbrev pub Says : (ℕ → Range) → ℕ → ℕ → Judged → Type 0
+Says at have n Valid = (n ≤ have) × AllSound at n × Apart at n
+Says at have n Short = have < n
+Says at have n (Unsound i k) = (n ≤ have) × AllSound at i × (i < n) × (numberAt at i ≡ k) × ¬ (k ≡ 0)
+Says at have n (Pair i j) = (n ≤ have) × AllSound at n × First at n i j

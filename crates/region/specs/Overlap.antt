@@ -3,7 +3,7 @@
 --   passes a          == the range ends above 4294967295
 --   overlapAnswer a b == 5 and no where either range passes; else 0 beside whether they overlap
 --   Inside x a        == the byte x lies in the range
-use mathlib.Core.Bool.{Bool, false, _&&_}
+use mathlib.Core.Bool.{Bool, false, _&&_, _||_}
 use mathlib.Core.List.{[], _∷_}
 use Prim.Native.Nat.{ℕ, _+_, _≤_, _<_}
 use lib.Dec.{ltb}
@@ -21,7 +21,7 @@ passes a = ltb lastByte (a .base + a .size)
 
 unfoldable pub overlapAnswer : Range → Range → Overlap
 overlapAnswer a b =
-    record { no = refuse ((passes a ⇒ 5) ∷ (passes b ⇒ 5) ∷ []); yes = pick (passes a) false (pick (passes b) false (overlaps a b)) }
+    record { no = refuse ((passes a || passes b ⇒ 5) ∷ []); yes = pick (passes a || passes b) false (overlaps a b) }
 
 pub record Inside (x : ℕ) (a : Range) : Type 0 where
   pub from : a .base ≤ x

@@ -1,0 +1,4 @@
+pub mod SizeLaws
+pub mod RasrLaws
+pub mod Determined
+pub mod Worked
