@@ -13,7 +13,7 @@ use lib.Dec.{ltb, eqb}
 use lib.Pow.{pow-mono, pow-lt, pow-pos}
 use lib.Arith.{bin-ind}
 use lib.Bits.{bitAnd, and-step, and-mask, and-self}
-use Rattle.laws.specs.Search.{Least}
+use Rattle.laws.specs.Search.{first, lowest, Least}
 use Rattle.laws.specs.Power.{log2, isPow2, Pow2}
 use Rattle.laws.proofs.BoolLaws.{same-test}
 use Rattle.laws.proofs.SearchLaws.{lowest-least, least-one}
@@ -44,6 +44,10 @@ pow2-exactly n h = (λ e. (log2 n, sym (eqb-true (2 ^ log2 n) n e)), λ p. eq-eq
 
 pub pow-double : (j : ℕ) → 2 ^ j * 2 ≡ 2 ^ (j + 1)
 pow-double j = sym (rw (add-one j) (pow-suc 2 j))
+
+pub zero-no-power : isPow2 0 ≡ false
+unfolding isPow2 log2 lowest first
+zero-no-power = refl
 
 -- from a power to the next that is not above n
 pub next-power : (j : ℕ) {n : ℕ} → Pow2 n → 2 ^ j < n → 2 ^ (j + 1) ≤ n
