@@ -3,10 +3,10 @@
 use mathlib.Core.Path.{_≡_, refl, sym}
 use mathlib.Core.Bool.{Bool, true, false, not, true≢false}
 use mathlib.Core.Logic.{_↔_}
-use mathlib.Core.List.{List, [], _∷_}
+use mathlib.Core.List.{List, [], _∷_, _++_}
 use Prim.Native.Nat.{ℕ, zero, suc, _<_}
 use native.Mathlib.Nat.{le-of-suc-le-suc, not-suc-le-zero}
-use borrow.Author.Tests.{eqb-false, not-true}
+use borrow.Author.Tests.{eqb-false, ne-eqb, not-true}
 use lib.ListN.{length, getD, take}
 use lib.Dec.{eqb}
 use Rattle.laws.specs.Pick.{pick}
@@ -60,3 +60,12 @@ given (c ∷ cs) t u (suc i) h =
     by : (w : Bool) → (at cs i .number ≡ c .number → ⊥) → (refuse cs ≡ at cs i .number) ↔ (Quiet (take i cs) × (at cs i .when ≡ true)) → (pick w (c .number) (refuse cs) ≡ at cs i .number) ↔ (((w ≡ false) × Quiet (take i cs)) × (at cs i .when ≡ true))
     by true elsewhere rest = (λ e. absurd (elsewhere (sym e)), λ q. absurd (true≢false (q .0 .0)))
     by false elsewhere rest = (λ e. ((refl, rest .0 e .0), rest .0 e .1), λ q. rest .1 (q .0 .1, q .1))
+
+-- one list after another: the first, unless it is quiet
+pub refuse-append : (cs ds : List Refusal) → fresh 0 cs ≡ true → refuse (cs ++ ds) ≡ pick (eqb (refuse cs) 0) (refuse ds) (refuse cs)
+refuse-append [] ds t = refl
+refuse-append (c ∷ cs) ds t = by (c .when) (refuse-append cs ds (later 0 c cs t))
+  where
+    by : (w : Bool) → refuse (cs ++ ds) ≡ pick (eqb (refuse cs) 0) (refuse ds) (refuse cs) → pick w (c .number) (refuse (cs ++ ds)) ≡ pick (eqb (pick w (c .number) (refuse cs)) 0) (refuse ds) (pick w (c .number) (refuse cs))
+    by true rest = rw (ne-eqb (c .number) 0 (other 0 c cs t))
+    by false rest = rest

@@ -9,6 +9,7 @@ use native.Mathlib.Omega.{arith}
 use lib.Dec.{ltb, lit<}
 use lib.Pow.{pow-pos}
 use Rattle.laws.specs.Power.{isPow2, Pow2}
+use Rattle.laws.specs.Refuse.{fresh}
 use Rattle.laws.proofs.BoolLaws.{fails-exactly}
 use Rattle.laws.proofs.RefuseLaws.{accepted, given}
 use Rattle.laws.proofs.PowerLaws.{pow2-exactly}
@@ -26,6 +27,10 @@ module _ (size : ℕ) (word : size < 2 ^ 32) where
   why-3 = (λ q. (power .0 (not-false _ (q .0 .0)), ltb-true _ _ (q .1)), λ s. ((ap not (power .1 (s .0)), tt), lt-ltb _ _ (s .1)))
 
 -- ---- one region
+pub soundness-numbered : (base size : ℕ) → fresh 0 (soundness base size) ≡ true
+unfolding soundness
+soundness-numbered base size = refl
+
 module _ (base size : ℕ) (word : size < 2 ^ 32) where
   pub sound-exactly : (regionNo base size ≡ 0) ↔ Sound base size
   unfolding regionNo soundness

@@ -77,7 +77,7 @@ pub fn regions_overlap(a: Range, b: Range) -> Overlap
     }
     Overlap {
         no: 0,
-        yes: meets(a, b),
+        yes: ranges_meet(a, b),
     }
 }
 
@@ -131,7 +131,7 @@ fn first_pair(words: &[u32], n: usize) -> Judged
         let a = record_at(words, i);
         let mut j = i + 1;
         while j < n {
-            if meets(a, record_at(words, j)) {
+            if ranges_meet(a, record_at(words, j)) {
                 break 'pairs Judged::Pair {
                     i: i as u32,
                     j: j as u32,
@@ -155,8 +155,8 @@ fn record_at(words: &[u32], i: usize) -> Range
     }
 }
 
-// The formula of the paper, in whole numbers: no sum wraps.
-fn meets(a: Range, b: Range) -> bool
+// The formula of the paper alone, in whole numbers: no sum wraps, nothing is refused.
+pub fn ranges_meet(a: Range, b: Range) -> bool
     ensures { λ r. ⌜ r ≡ overlaps a b ⌝ }
 {
     if (a.base as u64) < end_of(b) {

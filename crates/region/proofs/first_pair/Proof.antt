@@ -28,10 +28,10 @@ abbrev μ-pairs : tie.MeasureT-pairs
 μ-pairs words n i₀ i = n - i
 
 -- whether this turn's two records meet
-met : (c : tie.After-meets Inv-loop μ-loop Inv-pairs μ-pairs) →
+met : (c : tie.After-ranges-meet Inv-loop μ-loop Inv-pairs μ-pairs) →
     let l = c .before .before .before in
-    c .meets .result ≡ meeting (recordAt (l .before .before .before .before .before .args .words .now)) (l .before .before .before .pairs .i) (l .loop .j)
-met c = c .meets .ensures ∙ ap₂ overlaps (c .before .before .before .before .record-at .ensures) (c .before .record-at2 .ensures)
+    c .ranges-meet .result ≡ meeting (recordAt (l .before .before .before .before .before .args .words .now)) (l .before .before .before .pairs .i) (l .loop .j)
+met c = c .ranges-meet .ensures ∙ ap₂ overlaps (c .before .before .before .before .record-at .ensures) (c .before .record-at2 .ensures)
 
 loop-again : tie.Need-loop-again Inv-loop μ-loop Inv-pairs μ-pairs
 loop-again c =

@@ -1,4 +1,4 @@
--- Each refusal is a comparison with the range's end; past both, what is said is what `meets` answers. Assumes nothing.
+-- Each refusal is a comparison with the range's end; past both, what is said is what `ranges_meet` answers. Assumes nothing.
 use borrow.Author.Needs.{needs}
 use borrow.Author.Tests.{lt-ltb, le-ltb}
 use Rattle.region.specs.Overlap.{overlapAnswer}
@@ -20,7 +20,7 @@ unfolding overlapAnswer
 returns-3 c =
     let b = c .before in
     let a = b .before .before in
-    rw (le-ltb _ _ (rw (a .before .end-of .ensures) at (a .if1 .left)), le-ltb _ _ (rw (b .before .end-of2 .ensures) at (b .if2 .left)), c .meets .ensures)
+    rw (le-ltb _ _ (rw (a .before .end-of .ensures) at (a .if1 .left)), le-ltb _ _ (rw (b .before .end-of2 .ensures) at (b .if2 .left)), c .ranges-meet .ensures)
 
 pub regions-overlap-spec : {M : Type 1} → statement M
 regions-overlap-spec =

@@ -2,8 +2,8 @@
 use borrow.Author.Needs.{needs}
 use borrow.Author.Tests.{lt-ltb, le-ltb}
 use Rattle.region.specs.Overlap.{overlaps}
-use Rattle.region.proofs.meets.Statement.{statement}
-use Rattle.region.proofs.meets.Tie as tie
+use Rattle.region.proofs.ranges_meet.Statement.{statement}
+use Rattle.region.proofs.ranges_meet.Tie as tie
 
 returns : tie.Need-returns
 unfolding overlaps
@@ -15,6 +15,6 @@ returns-2 : tie.Need-returns-2
 unfolding overlaps
 returns-2 c = rw (le-ltb _ _ (rw (c .before .end-of .ensures) at (c .if1 .left)))
 
-pub meets-spec : {M : Type 1} → statement M
-meets-spec =
+pub ranges-meet-spec : {M : Type 1} → statement M
+ranges-meet-spec =
     tie.close (tie.spec (λ c. search needs) (λ c κs. search needs) (λ c. search needs) (λ c κs. search needs) returns returns-2)

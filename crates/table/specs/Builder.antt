@@ -1,0 +1,51 @@
+-- The builder.
+--   wanted q          == the bytes that the request q asks for
+--   granted q         == the entry that grants q: as asked, and enabled
+--   firstFree n t p   == the lowest slot of the partition that isn't enabled; n where all are
+--   full n t p        == all slots are enabled
+--   refusals n t p q  == what refuses, in the order of the paper: 1, 9, 2, 3, 4, 5, 6, 7
+--   tryAdd n t p q    == the number, and the table: with q granted in the first free slot where accepted, else as received
+use mathlib.Core.Bool.{Bool, true, not}
+use mathlib.Core.List.{List, [], _∷_, _++_}
+use Prim.Native.Nat.{ℕ}
+use lib.Dec.{ltb, eqb}
+use Rattle.laws.specs.Pick.{pick}
+use Rattle.laws.specs.Refuse.{Refusal, _⇒_, refuse}
+use Rattle.laws.specs.Search.{lowest, some}
+use Rattle.region.specs.declared.Range.{Range}
+use Rattle.region.specs.Sound.{soundness}
+use Rattle.table.specs.declared.Table.{Table}
+use Rattle.table.specs.declared.Entry.{Entry}
+use Rattle.table.specs.declared.Request.{Request}
+use Rattle.table.specs.declared.Added.{Added}
+use Rattle.table.specs.Numbers.{flatIndex}
+use Rattle.table.specs.Table.{withEntry, slotEntry}
+use Rattle.table.specs.Entries.{isFree, meets}
+use Rattle.table.specs.Lawful.{lawful}
+use Rattle.table.specs.Covers.{beyond}
+
+abbrev pub wanted : Request → Range
+wanted q = record { base = q .base; size = q .size }
+
+abbrev pub granted : Request → Entry
+granted q = record { base = q .base; size = q .size; enabled = true; writable = q .writable }
+
+unfoldable pub overlapsAny : ℕ → Table → ℕ → Request → Bool
+overlapsAny n t p q = some (λ s. meets (wanted q) (slotEntry n t p s)) 0 n
+
+unfoldable pub firstFree : ℕ → Table → ℕ → ℕ
+firstFree n t p = lowest (λ s. isFree (slotEntry n t p s)) 0 n
+
+unfoldable pub full : ℕ → Table → ℕ → Bool
+full n t p = not (ltb (firstFree n t p) n)
+
+unfoldable pub refusals : ℕ → Table → ℕ → Request → List Refusal
+refusals n t p q =
+    (beyond p ⇒ 1) ∷ (not (lawful n t) ⇒ 9) ∷ soundness (q .base) (q .size) ++ ((overlapsAny n t p q ⇒ 6) ∷ (full n t p ⇒ 7) ∷ [])
+
+unfoldable pub builderNo : ℕ → Table → ℕ → Request → ℕ
+builderNo n t p q = refuse (refusals n t p q)
+
+unfoldable pub tryAdd : ℕ → Table → ℕ → Request → Added
+tryAdd n t p q =
+    record { no = builderNo n t p q; table = pick (eqb (builderNo n t p q) 0) (withEntry t (flatIndex n p (firstFree n t p)) (granted q)) t }

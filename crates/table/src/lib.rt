@@ -1,0 +1,289 @@
+// The table: what each partition is granted. The empty table, the builder, covering. From mpu_switch.rs.
+mod numbers;
+
+use numbers::PARTS;
+pub use numbers::Part;
+pub use numbers::Parted;
+pub use numbers::SLOTS;
+pub use numbers::Slot;
+pub use numbers::Slotted;
+use numbers::flat;
+use region::Range;
+ghost use mathlib.Core.Path.{_≡_};
+ghost use mathlib.Core.Bool.{_&&_};
+ghost use Prim.Native.Nat.{_+_, _<_, _≤_};
+ghost use lib.Dec.{ltb, leb};
+ghost use Rattle.laws.specs.Search.{lowest, some};
+ghost use Rattle.table.specs.Numbers.{parts, slots, cells};
+ghost use Rattle.table.specs.Table.{entryAt, withEntry, emptyTable, slotEntry, entryAnswer};
+ghost use Rattle.table.specs.Entries.{rangeOf, asked, slotAsked};
+ghost use Rattle.table.specs.Lawful.{clashAt, lawfulPart, lawful};
+ghost use Rattle.table.specs.Covers.{coverAnswer};
+ghost use Rattle.table.specs.Builder.{tryAdd};
+
+// The four arrays of the source, flat: slot s of partition p lies at 8 x p + s.
+pub struct Table {
+    pub base: [u32; 32],
+    pub size: [u32; 32],
+    pub enabled: [bool; 32],
+    pub writable: [bool; 32],
+}
+
+// What stands at one place of the table.
+pub struct Entry {
+    pub base: u32,
+    pub size: u32,
+    pub enabled: bool,
+    pub writable: bool,
+}
+
+// What a partition asks for.
+pub struct Request {
+    pub base: u32,
+    pub size: u32,
+    pub writable: bool,
+}
+
+// The builder's answer: a number, and the table, as received where the number refuses.
+pub struct Added {
+    pub no: u32,
+    pub table: Table,
+}
+
+// Whether a byte is covered, beside a refusal's number.
+pub struct Covered {
+    pub no: u32,
+    pub yes: bool,
+}
+
+// What is asked of an entry: is its place free, is it unsound, does it meet a range, does it cover a byte?
+enum Question {
+    Free,
+    Unsound,
+    Meets(Range),
+    Covers(u32),
+}
+
+impl Table {
+    // Nothing is granted.
+    pub fn new() -> Table
+        ensures { λ r. ⌜ r ≡ emptyTable slots ⌝ }
+    {
+        Table {
+            base: [0; 32],
+            size: [0; 32],
+            enabled: [false; 32],
+            writable: [false; 32],
+        }
+    }
+
+    // Grants a request, in the lowest free slot of its partition, or says why not.
+    pub fn try_add_region(self, part: u32, q: Request) -> Added
+        ensures { λ r. ⌜ r ≡ tryAdd slots self part q ⌝ }
+    {
+        let Parted::Is(p) = Part::new(part) else {
+            return Added { no: 1, table: self };
+        };
+        if !self.lawful() {
+            return Added { no: 9, table: self };
+        }
+        let no = region::validate_region(q.base, q.size);
+        if no != 0 {
+            return Added { no, table: self };
+        }
+        let wanted = Range {
+            base: q.base,
+            size: q.size,
+        };
+        if self.first_slot(p, 0, Question::Meets(wanted)) < SLOTS {
+            return Added { no: 6, table: self };
+        }
+        let free = self.first_slot(p, 0, Question::Free);
+        if SLOTS <= free {
+            return Added { no: 7, table: self };
+        }
+        Added {
+            no: 0,
+            table: self.with(
+                flat(p, Slot::at(free)),
+                Entry {
+                    base: q.base,
+                    size: q.size,
+                    enabled: true,
+                    writable: q.writable,
+                },
+            ),
+        }
+    }
+
+    // Does some enabled entry of the partition contain this byte?
+    pub fn covers_addr(self, part: u32, address: u32) -> Covered
+        ensures { λ r. ⌜ r ≡ coverAnswer slots self part address ⌝ }
+    {
+        let Parted::Is(p) = Part::new(part) else {
+            return Covered { no: 1, yes: false };
+        };
+        Covered {
+            no: 0,
+            yes: self.first_slot(p, 0, Question::Covers(address)) < SLOTS,
+        }
+    }
+
+    // Is every enabled entry sound, and do no two of one partition overlap?
+    pub fn lawful(self) -> bool
+        ensures { λ r. ⌜ r ≡ lawful slots self ⌝ }
+    {
+        let mut p = 0;
+        while p < PARTS {
+            if !self.lawful_part(Part::at(p)) {
+                return false;
+            }
+            p += 1;
+        }
+        true
+    }
+
+    // The entry of a slot; an empty one where the partition or the slot is out of range.
+    pub fn entry(self, p: Part, s: Slot) -> Entry
+        ensures { λ r. ⌜ r ≡ entryAnswer slots self (p .0) (s .0) ⌝ }
+    {
+        if p.0 < PARTS {
+            if s.0 < SLOTS {
+                return self.peek(p, s);
+            }
+        }
+        Entry {
+            base: 0,
+            size: 0,
+            enabled: false,
+            writable: false,
+        }
+    }
+
+    fn lawful_part(self, p: Part) -> bool
+        requires { ⌜ p .0 < parts ⌝ }
+        ensures { λ r. ⌜ r ≡ lawfulPart slots self (p .0) ⌝ }
+    {
+        if self.first_slot(p, 0, Question::Unsound) < SLOTS {
+            return false;
+        }
+        !self.clashes(p)
+    }
+
+    // Does some enabled entry of the partition meet a later one?
+    fn clashes(self, p: Part) -> bool
+        requires { ⌜ p .0 < parts ⌝ }
+        ensures { λ r. ⌜ r ≡ some (clashAt slots self (p .0)) 0 slots ⌝ }
+    {
+        let mut i = 0;
+        while i < SLOTS {
+            if self.clashes_at(p, Slot::at(i)) {
+                return true;
+            }
+            i += 1;
+        }
+        false
+    }
+
+    fn clashes_at(self, p: Part, s: Slot) -> bool
+        requires { ⌜ (p .0 < parts) × (s .0 < slots) ⌝ }
+        ensures { λ r. ⌜ r ≡ clashAt slots self (p .0) (s .0) ⌝ }
+    {
+        let e = self.peek(p, s);
+        if e.enabled {
+            self.first_slot(p, s.0 + 1, Question::Meets(range_of(e))) < SLOTS
+        } else {
+            false
+        }
+    }
+
+    // The lowest slot from `from` on whose entry answers yes; 8 where none does.
+    fn first_slot(self, p: Part, from: u32, what: Question) -> u32
+        requires { ⌜ (p .0 < parts) × (from ≤ slots) ⌝ }
+        ensures { λ r. ⌜ r ≡ lowest (slotAsked slots self (p .0) what) from slots ⌝ }
+    {
+        let mut s = from;
+        while s < SLOTS {
+            if ask(self.peek(p, Slot::at(s)), what) {
+                return s;
+            }
+            s += 1;
+        }
+        s
+    }
+
+    fn peek(self, p: Part, s: Slot) -> Entry
+        requires { ⌜ (p .0 < parts) × (s .0 < slots) ⌝ }
+        ensures { λ r. ⌜ r ≡ slotEntry slots self (p .0) (s .0) ⌝ }
+    {
+        self.read(flat(p, s))
+    }
+
+    // These two alone touch the four arrays.
+    fn read(self, i: usize) -> Entry
+        requires { ⌜ i < cells ⌝ }
+        ensures { λ r. ⌜ r ≡ entryAt self i ⌝ }
+    {
+        Entry {
+            base: self.base[i],
+            size: self.size[i],
+            enabled: self.enabled[i],
+            writable: self.writable[i],
+        }
+    }
+
+    fn with(self, i: usize, e: Entry) -> Table
+        requires { ⌜ i < cells ⌝ }
+        ensures { λ r. ⌜ r ≡ withEntry self i e ⌝ }
+    {
+        let mut t = self;
+        t.base[i] = e.base;
+        t.size[i] = e.size;
+        t.enabled[i] = e.enabled;
+        t.writable[i] = e.writable;
+        t
+    }
+}
+
+fn ask(e: Entry, what: Question) -> bool
+    ensures { λ r. ⌜ r ≡ asked what e ⌝ }
+{
+    match what {
+        Question::Free => !e.enabled,
+        Question::Unsound => {
+            if e.enabled {
+                region::validate_region(e.base, e.size) != 0
+            } else {
+                false
+            }
+        }
+        Question::Meets(r) => {
+            if e.enabled {
+                region::ranges_meet(r, range_of(e))
+            } else {
+                false
+            }
+        }
+        Question::Covers(a) => { if e.enabled { contains(e, a) } else { false } }
+    }
+}
+
+// base <= a < base + size, with no sum that could wrap.
+fn contains(e: Entry, a: u32) -> bool
+    ensures { λ r. ⌜ r ≡ leb (e .base) a && ltb a (e .base + e .size) ⌝ }
+{
+    if e.base <= a {
+        a - e.base < e.size
+    } else {
+        false
+    }
+}
+
+fn range_of(e: Entry) -> Range
+    ensures { λ r. ⌜ r ≡ rangeOf e ⌝ }
+{
+    Range {
+        base: e.base,
+        size: e.size,
+    }
+}
