@@ -51,3 +51,18 @@ holds-unless {b} = by b
     by : (b : Bool) → (b ≡ false → ⊥) → b ≡ true
     by true n = refl
     by false n = absurd (n refl)
+
+-- two tests do not hold together exactly if the second fails wherever the first holds
+pub unless : {a b : Bool} → ((a && b) ≡ false) ↔ (a ≡ true → b ≡ false)
+unless {a} {b} = (λ e h. sym (rw h) ∙ e, by a)
+  where
+    by : (a : Bool) → (a ≡ true → b ≡ false) → (a && b) ≡ false
+    by true f = f refl
+    by false f = refl
+
+pub fails-unless : {b : Bool} → (b ≡ true → ⊥) → b ≡ false
+fails-unless {b} = by b
+  where
+    by : (b : Bool) → (b ≡ true → ⊥) → b ≡ false
+    by true n = absurd (n refl)
+    by false n = refl

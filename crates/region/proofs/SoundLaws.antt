@@ -64,6 +64,13 @@ module _ (base size : ℕ) (word : size < 2 ^ 32) where
         λ s. ((ap not (power size word .1 (s .0)), (le-ltb _ _ (s .1), (ap not (eq-eqb _ _ (s .2)), tt))), lt-ltb _ _ (s .3)),
       )
 
+-- an accepted region is one of 32 bits, so nothing need be known of its size beforehand
+pub sound-facts : (base size : ℕ) → regionNo base size ≡ 0 → Sound base size
+unfolding regionNo soundness
+sound-facts base size e =
+    let end : base + size ≤ lastByte = ltb-false _ _ (accepted (soundness base size) refl .0 e .1 .1 .1 .0) in
+    sound-exactly base size (omega arith) .0 e
+
 -- ---- what the source's empty lemmas only named
 pub zero-size-refused : (base : ℕ) → regionNo base 0 ≡ 2
 zero-size-refused base = refused-2 base 0 (lit< tt) .1 (λ p. not-zero (p .0) (p .1))

@@ -1,2 +1,11 @@
 pub mod NumbersLaws
 pub mod BuilderNo
+pub mod EntryLaws
+pub mod LawfulLaws
+pub mod CoversLaws
+pub mod RefusalLaws
+pub mod AddLaws
+pub mod KeepLaws
+pub mod BuiltLaws
+pub mod Determined
+pub mod Worked

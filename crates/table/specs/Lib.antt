@@ -1,6 +1,9 @@
 pub mod Numbers
 pub mod Table
+pub mod Whole
 pub mod Entries
 pub mod Lawful
 pub mod Covers
 pub mod Builder
+pub mod Built
+pub mod Worked

@@ -1,0 +1,38 @@
+-- One answer: of each public routine, two results that its own contract allows at the same arguments are one, each being what the contract's
+-- equation says. Assumes nothing.
+use mathlib.Core.Path.{_≡_, sym, _∙_}
+use mathlib.Core.Bool.{Bool}
+use Rattle.table.specs.declared.Table.{Table}
+use Rattle.table.specs.declared.Entry.{Entry}
+use Rattle.table.specs.declared.Added.{Added}
+use Rattle.table.specs.declared.Covered.{Covered}
+use Rattle.table.specs.declared.numbers.Parted.{Parted}
+use Rattle.table.specs.declared.numbers.Slotted.{Slotted}
+use Rattle.table.proofs.numbers.Part.new.Reads as part-new
+use Rattle.table.proofs.numbers.Slot.new.Reads as slot-new
+use Rattle.table.proofs.Table.new.Reads as table-new
+use Rattle.table.proofs.Table.try_add_region.Reads as try-add-region
+use Rattle.table.proofs.Table.covers_addr.Reads as covers-addr
+use Rattle.table.proofs.Table.lawful.Reads as lawful
+use Rattle.table.proofs.Table.entry.Reads as entry
+
+part-new-once : (a : _) (r s : Parted) (e f : _) → part-new.Post tt a r e → part-new.Post tt a s f → r ≡ s
+part-new-once a r s e f p q = p ∙ sym q
+
+slot-new-once : (a : _) (r s : Slotted) (e f : _) → slot-new.Post tt a r e → slot-new.Post tt a s f → r ≡ s
+slot-new-once a r s e f p q = p ∙ sym q
+
+table-new-once : (a : _) (r s : Table) (e f : _) → table-new.Post tt a r e → table-new.Post tt a s f → r ≡ s
+table-new-once a r s e f p q = p ∙ sym q
+
+try-add-region-once : (a : _) (r s : Added) (e f : _) → try-add-region.Post tt a r e → try-add-region.Post tt a s f → r ≡ s
+try-add-region-once a r s e f p q = p ∙ sym q
+
+covers-addr-once : (a : _) (r s : Covered) (e f : _) → covers-addr.Post tt a r e → covers-addr.Post tt a s f → r ≡ s
+covers-addr-once a r s e f p q = p ∙ sym q
+
+lawful-once : (a : _) (r s : Bool) (e f : _) → lawful.Post tt a r e → lawful.Post tt a s f → r ≡ s
+lawful-once a r s e f p q = p ∙ sym q
+
+entry-once : (a : _) (r s : Entry) (e f : _) → entry.Post tt a r e → entry.Post tt a s f → r ≡ s
+entry-once a r s e f p q = p ∙ sym q

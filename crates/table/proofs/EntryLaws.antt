@@ -1,0 +1,59 @@
+-- What stands in a table after an entry is written: that entry at its place, and what stood elsewhere. And two slots have one place only if
+-- they are one slot of one partition: division by the slot count reads the two numbers back. Assumes nothing.
+use mathlib.Core.Path.{_≡_, sym, _∙_, ap, subst}
+use mathlib.Core.Bool.{false}
+use Prim.Native.Nat.{ℕ, _+_, _*_, _/_, _%_, _<_}
+use native.Mathlib.Nat.{mul-comm}
+use lib.Arith.{digits-div, digits-mod, digits-lt}
+use lib.ListN.{length-set, length-replicate}
+use lib.Seq.{getD-set-same, getD-set-other}
+use Rattle.table.specs.declared.Table.{Table}
+use Rattle.table.specs.declared.Entry.{Entry}
+use Rattle.table.specs.Numbers.{parts, flatIndex}
+use Rattle.table.specs.Table.{entryAt, withEntry, emptyTable, slotEntry}
+use Rattle.table.specs.Whole.{Whole}
+
+-- ---- one place
+pub with-same : (n : ℕ) (t : Table) (i : ℕ) (e : Entry) → Whole n t → i < parts * n → entryAt (withEntry t i e) i ≡ e
+with-same n t i e w h = λ k.
+    record { base = getD-set-same (t .base) i (e .base) 0 (rw (w .base) h) k; size = getD-set-same (t .size) i (e .size) 0 (rw (w .size) h) k; enabled = getD-set-same (t .enabled) i (e .enabled) false (rw (w .enabled) h) k; writable = getD-set-same (t .writable) i (e .writable) false (rw (w .writable) h) k }
+
+pub with-other : (t : Table) (i j : ℕ) (e : Entry) → ¬ (j ≡ i) → entryAt (withEntry t i e) j ≡ entryAt t j
+with-other t i j e h = λ k.
+    record { base = getD-set-other (t .base) i j (e .base) 0 h k; size = getD-set-other (t .size) i j (e .size) 0 h k; enabled = getD-set-other (t .enabled) i j (e .enabled) false h k; writable = getD-set-other (t .writable) i j (e .writable) false h k }
+
+pub with-whole : (n : ℕ) (t : Table) (i : ℕ) (e : Entry) → Whole n t → Whole n (withEntry t i e)
+with-whole n t i e w =
+    record { base = length-set (t .base) i (e .base) ∙ w .base; size = length-set (t .size) i (e .size) ∙ w .size; enabled = length-set (t .enabled) i (e .enabled) ∙ w .enabled; writable = length-set (t .writable) i (e .writable) ∙ w .writable }
+
+pub empty-whole : (n : ℕ) → Whole n (emptyTable n)
+empty-whole n =
+    record { base = length-replicate (parts * n) 0; size = length-replicate (parts * n) 0; enabled = length-replicate (parts * n) false; writable = length-replicate (parts * n) false }
+
+-- ---- the flat index
+module _ (n p s : ℕ) (h : s < n) where
+  turned : flatIndex n p s ≡ p * n + s
+  turned = ap (λ (x : ℕ). x + s) (mul-comm n p)
+
+  pub part-of : flatIndex n p s / n ≡ p
+  part-of = ap (λ (x : ℕ). x / n) turned ∙ digits-div p h
+
+  pub slot-of : flatIndex n p s % n ≡ s
+  slot-of = ap (λ (x : ℕ). x % n) turned ∙ digits-mod p h
+
+  pub flat-within : p < parts → flatIndex n p s < parts * n
+  flat-within k = subst (λ (x : ℕ). x < parts * n) (sym turned) (digits-lt k h)
+
+pub flat-one : (n p s q r : ℕ) → s < n → r < n → flatIndex n p s ≡ flatIndex n q r → (p ≡ q) × (s ≡ r)
+flat-one n p s q r h k e =
+    (sym (part-of n p s h) ∙ ap (λ (x : ℕ). x / n) e ∙ part-of n q r k, sym (slot-of n p s h) ∙ ap (λ (x : ℕ). x % n) e ∙ slot-of n q r k)
+
+-- ---- the slots of a partition
+module _ (n : ℕ) (t : Table) (p s : ℕ) (e : Entry) (h : s < n) where
+  pub slot-same : Whole n t → p < parts → slotEntry n (withEntry t (flatIndex n p s) e) p s ≡ e
+  unfolding slotEntry
+  slot-same w k = with-same n t (flatIndex n p s) e w (flat-within n p s h k)
+
+  pub slot-other : (q r : ℕ) → r < n → ¬ ((q ≡ p) × (r ≡ s)) → slotEntry n (withEntry t (flatIndex n p s) e) q r ≡ slotEntry n t q r
+  unfolding slotEntry
+  slot-other q r k d = with-other t (flatIndex n p s) (flatIndex n q r) e (λ x. d (flat-one n q r p s k h x))
