@@ -5,7 +5,7 @@ use mathlib.Core.Logic.{_↔_, Iff·trans}
 use Prim.Native.Nat.{ℕ, _+_, _-_, _^_, _≤_, _<_, zero-le}
 use native.Mathlib.Nat.{le-of-lt, lt-of-le-of-lt}
 use native.Mathlib.Omega.{arith}
-use borrow.Author.Tests.{ltb-false, le-ltb, not-false}
+use borrow.Author.Tests.{ltb-false, le-ltb, ne-eqb, not-false}
 use lib.Dec.{eqb, ltb, lit<}
 use lib.Pow.{pow-mono, pow-lt}
 use Rattle.laws.specs.Power.{log2, isPow2, Pow2}
@@ -38,6 +38,10 @@ module _ (size : ℕ) (word : size < 2 ^ 32) where
 pub size-value : (size : ℕ) → sizeAnswer size .no ≡ 0 → sizeAnswer size .value ≡ sizeField size
 unfolding sizeAnswer sizing
 size-value size e = rw e
+
+pub size-refused-value : (size : ℕ) → ¬ (sizeAnswer size .no ≡ 0) → sizeAnswer size .value ≡ 0
+unfolding sizeAnswer sizing
+size-refused-value size h = rw (ne-eqb (sizeAnswer size .no) 0 h)
 
 -- any answer, refused or not, fits its five bits
 pub size-most : (size : ℕ) → sizeAnswer size .value ≤ 31

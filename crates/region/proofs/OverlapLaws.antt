@@ -1,14 +1,15 @@
 -- What overlap means. Both halves of the formula hold at once: then the higher of the two bases lies in both ranges, unless one is empty; and a
 -- byte in both gives both halves. Assumes nothing.
 use mathlib.Core.Path.{_≡_, refl, sym, _∙_}
-use mathlib.Core.Bool.{true, false, _&&_, _||_, and-comm, and-false, true≢false}
+use mathlib.Core.Bool.{true, false, _&&_, _||_, and-comm, and-false, or-comm, true≢false}
 use mathlib.Core.List.{[], _∷_}
-use mathlib.Core.Logic.{_↔_}
+use mathlib.Core.Logic.{_↔_, _⊎_, inl, inr, ⊎-elim}
 use Prim.Native.Nat.{ℕ, _+_, _≤_, _<_, max}
+use native.Mathlib.Decide.{decLt}
 use native.Mathlib.Omega.{arith}
 use borrow.Author.Tests.{ltb-true, ltb-false, lt-ltb, le-ltb}
 use lib.Dec.{ltb, lit<}
-use Rattle.laws.proofs.BoolLaws.{and-left, and-right, both, or-left, or-right, neither, holds-unless}
+use Rattle.laws.proofs.BoolLaws.{and-left, and-right, both, or-left, or-right, neither, holds-unless, fails-unless}
 use Rattle.laws.specs.Refuse.{_⇒_}
 use Rattle.laws.proofs.RefuseLaws.{accepted, given}
 use Rattle.region.specs.declared.Range.{Range}
@@ -37,6 +38,16 @@ module _ (a b : Range) where
         (max (a .base) (b .base), record { from = omega arith; below = omega (arith, p .1) }, record { from = omega arith; below = omega (arith, p .0) }),
     λ w. overlaps-exactly .1 (omega (arith, w .1 .from, w .2 .below), omega (arith, w .1 .below, w .2 .from)),
   )
+
+-- ---- apart: one range ends where the other begins, or before
+pub apart-exactly : (a b : Range) → (overlaps a b ≡ false) ↔ ((b .base + b .size ≤ a .base) ⊎ (a .base + a .size ≤ b .base))
+apart-exactly a b = (λ e. by (decLt (a .base) (b .base + b .size)) e, λ s. fails-unless (λ e. let p = overlaps-exactly a b .0 e in ⊎-elim (λ l. omega (arith, p .0, l)) (λ r. omega (arith, p .1, r)) s))
+  where
+    not-below : ¬ (b .base < a .base + a .size) → a .base + a .size ≤ b .base
+    not-below h = omega arith
+    by : Dec (a .base < b .base + b .size) → overlaps a b ≡ false → (b .base + b .size ≤ a .base) ⊎ (a .base + a .size ≤ b .base)
+    by (no h) e = inl (omega arith)
+    by (yes h) e = inr (not-below (λ k. true≢false (sym (overlaps-exactly a b .1 (h, k)) ∙ e)))
 
 -- ---- a range with no byte
 pub empty-inside : (a : Range) (x : ℕ) → a .base < x → x < a .base + a .size → overlaps a (range x 0) ≡ true
@@ -73,6 +84,10 @@ module _ (a b : Range) where
   pub overlap-answers : overlapAnswer a b .no ≡ 0 → overlapAnswer a b .yes ≡ overlaps a b
   unfolding overlapAnswer
   overlap-answers e = rw (fit .1 (overlap-accepted .0 e))
+
+  pub overlap-answer-symmetric : overlapAnswer a b ≡ overlapAnswer b a
+  unfolding overlapAnswer
+  overlap-answer-symmetric = rw (or-comm (passes a) (passes b), overlaps-symmetric a b)
 
   pub overlap-refused-no : overlapAnswer a b .no ≡ 5 → overlapAnswer a b .yes ≡ false
   unfolding overlapAnswer

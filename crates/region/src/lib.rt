@@ -159,11 +159,7 @@ fn record_at(words: &[u32], i: usize) -> Range
 pub fn ranges_meet(a: Range, b: Range) -> bool
     ensures { λ r. ⌜ r ≡ overlaps a b ⌝ }
 {
-    if (a.base as u64) < end_of(b) {
-        (b.base as u64) < end_of(a)
-    } else {
-        false
-    }
+    (a.base as u64) < end_of(b) && (b.base as u64) < end_of(a)
 }
 
 fn end_of(a: Range) -> u64

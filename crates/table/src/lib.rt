@@ -190,11 +190,7 @@ impl Table {
         ensures { λ r. ⌜ r ≡ clashAt slots self (p .0) (s .0) ⌝ }
     {
         let e = self.peek(p, s);
-        if e.enabled {
-            self.first_slot(p, s.0 + 1, Question::Meets(range_of(e))) < SLOTS
-        } else {
-            false
-        }
+        e.enabled && self.first_slot(p, s.0 + 1, Question::Meets(range_of(e))) < SLOTS
     }
 
     // The lowest slot from `from` on whose entry answers yes; 8 where none does.
@@ -250,21 +246,9 @@ fn ask(e: Entry, what: Question) -> bool
 {
     match what {
         Question::Free => !e.enabled,
-        Question::Unsound => {
-            if e.enabled {
-                region::validate_region(e.base, e.size) != 0
-            } else {
-                false
-            }
-        }
-        Question::Meets(r) => {
-            if e.enabled {
-                region::ranges_meet(r, range_of(e))
-            } else {
-                false
-            }
-        }
-        Question::Covers(a) => { if e.enabled { contains(e, a) } else { false } }
+        Question::Unsound => e.enabled && region::validate_region(e.base, e.size) != 0,
+        Question::Meets(r) => e.enabled && region::ranges_meet(r, range_of(e)),
+        Question::Covers(a) => e.enabled && contains(e, a),
     }
 }
 
@@ -272,11 +256,7 @@ fn ask(e: Entry, what: Question) -> bool
 fn contains(e: Entry, a: u32) -> bool
     ensures { λ r. ⌜ r ≡ leb (e .base) a && ltb a (e .base + e .size) ⌝ }
 {
-    if e.base <= a {
-        a - e.base < e.size
-    } else {
-        false
-    }
+    e.base <= a && a - e.base < e.size
 }
 
 fn range_of(e: Entry) -> Range

@@ -3,6 +3,7 @@ mod lists;
 mod print;
 mod regions;
 mod registers;
+mod tables;
 
 fn main() {
     regions::powers();
@@ -11,4 +12,5 @@ fn main() {
     lists::lists();
     registers::sizes();
     registers::values();
+    tables::tables();
 }

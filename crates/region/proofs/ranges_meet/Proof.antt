@@ -13,7 +13,7 @@ returns c =
 
 returns-2 : tie.Need-returns-2
 unfolding overlaps
-returns-2 c = rw (le-ltb _ _ (rw (c .before .end-of .ensures) at (c .if1 .left)))
+returns-2 c = rw (c .before .end-of .ensures, le-ltb _ _ (rw (c .before .end-of .ensures) at (c .if1 .left)))
 
 pub ranges-meet-spec : {M : Type 1} → statement M
 ranges-meet-spec =
