@@ -45,6 +45,7 @@ apart-exactly a b = (λ e. by (decLt (a .base) (b .base + b .size)) e, λ s. fai
   where
     not-below : ¬ (b .base < a .base + a .size) → a .base + a .size ≤ b .base
     not-below h = omega arith
+
     by : Dec (a .base < b .base + b .size) → overlaps a b ≡ false → (b .base + b .size ≤ a .base) ⊎ (a .base + a .size ≤ b .base)
     by (no h) e = inl (omega arith)
     by (yes h) e = inr (not-below (λ k. true≢false (sym (overlaps-exactly a b .1 (h, k)) ∙ e)))
