@@ -1,0 +1,2 @@
+pub mod PermissionLaws
+pub mod NumberLaws

@@ -1,0 +1,4 @@
+pub mod Registers
+pub mod RegisterWrite
+pub mod Permission
+pub mod Decision
