@@ -4,6 +4,7 @@ use mathlib.Core.Bool.{Bool, true, false}
 use Prim.Native.Nat.{ℕ}
 use Rattle.laws.specs.Pick.{pick}
 use Rattle.laws.proofs.BoolLaws.{pick-ap}
+use Rattle.device.proofs.TestLaws.{pick-same}
 use Rattle.device.specs.declared.Mpu.{Mpu}
 use Rattle.device.specs.declared.Kind.{Kind}
 use Rattle.device.specs.declared.Kind.the-variants.{Read, Write}
@@ -12,9 +13,6 @@ use Rattle.device.specs.declared.Answer.{Answer}
 use Rattle.device.specs.Permission.{Right, none, read, readWrite, undefined, grants, rowAnswer}
 use Rattle.device.specs.Decision.{judged, decision, numberOf, decisionNo}
 
-pub pick-same : {X : Type 0} (b : Bool) (x : X) → pick b x x ≡ x
-pick-same true x = refl
-pick-same false x = refl
 
 grants-number : (r : Right) (k : Kind) → numberOf (grants r k) ≡ 0
 grants-number none k = refl

@@ -14,6 +14,7 @@ use lib.ListN.{set}
 use Rattle.laws.specs.Pick.{pick}
 use Rattle.laws.specs.Refuse.{Refusal, _⇒_, refuse}
 use Rattle.device.specs.declared.Write.{Write}
+use Rattle.device.specs.declared.Pair.{Pair}
 use Rattle.device.specs.declared.Mpu.{Mpu}
 use Rattle.device.specs.declared.Written.{Written}
 use Rattle.device.specs.Registers.{ctrl, bit, allowed}
@@ -43,10 +44,12 @@ unfoldable pub writeNo : ℕ → Mpu → Write → ℕ
 unfolding triple
 writeNo n m w = refuse ((not (allowed (m .control)) ⇒ 12) ∷ triple n w)
 
+abbrev pub pairOf : Write → Pair
+pairOf w = record { rbar = w .rbar; rasr = w .rasr }
+
 unfoldable pub stored : ℕ → Mpu → Write → Mpu
 stored n m w =
-    pick (slotNamed n w) (record { slots = set (m .slots) (w .rnr) (record { rbar = w .rbar; rasr = w .rasr }); control = m .control })
-    (record { slots = m .slots; control = w .rasr })
+    record { slots = pick (slotNamed n w) (set (m .slots) (w .rnr) (pairOf w)) (m .slots); control = pick (slotNamed n w) (m .control) (w .rasr) }
 
 unfoldable pub writeRegister : ℕ → Mpu → Write → Written
 writeRegister n m w = record { no = writeNo n m w; mpu = pick (eqb (writeNo n m w) 0) (stored n m w) m }
