@@ -5,6 +5,8 @@ use native.Mathlib.Omega.{arith}
 use lib.Dec.{lit<}
 use Rattle.device.specs.declared.Kind.{Kind}
 use Rattle.device.specs.declared.Kind.the-variants.{Read, Write}
+use Rattle.device.specs.declared.Answer.{Answer}
+use Rattle.device.specs.declared.Answer.the-variants.{Undefined, Permitted, Denied}
 use Rattle.device.specs.Permission.{Right, none, read, readWrite, undefined, Row, grants, digit, packed, unpacked}
 
 pub digit-answers : (r : Right) (k : Kind) → unpacked (digit r) k ≡ grants r k
@@ -28,3 +30,11 @@ packed-privileged r = omega (arith, octal (r .privileged))
 
 pub packed-unprivileged : (r : Row) → packed r / 8 ≡ digit (r .unprivileged)
 packed-unprivileged r = omega (arith, octal (r .privileged))
+
+-- a row's answer is one of three: what holds of each holds of it
+pub grants-as : (g : Answer → ℕ) {y : ℕ} → g Undefined ≡ y → g Permitted ≡ y → g Denied ≡ y → (r : Right) (k : Kind) → g (grants r k) ≡ y
+grants-as g u p d none k = d
+grants-as g u p d read Read = p
+grants-as g u p d read Write = d
+grants-as g u p d readWrite k = p
+grants-as g u p d undefined k = u
