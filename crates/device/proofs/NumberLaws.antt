@@ -10,7 +10,6 @@ use Rattle.device.specs.Decision.{judged, decision, numberOf, decisionNo
 use Rattle.device.proofs.TestLaws.{pick-same}
 use Rattle.device.proofs.PermissionLaws.{grants-as}
 
-
 module _ (n : ℕ) (m : Mpu) (a : Access) where
   number-due : numberOf (decision n m a) ≡ decisionNo m
   unfolding decision decisionNo judged rowAnswer
