@@ -24,7 +24,7 @@ module _ (n : ℕ) (m : Mpu) (w : Write) where
   accepted-stored e = rw e
 
   -- ---- a slot: both values unaltered there
-  pub slot-stored : w .rnr < n → w .rnr < length (m .slots) → slotAt (stored n m w .slots) (w .rnr) ≡ pairOf w
+  pub slot-stored : w .rnr < n → w .rnr < length (m .slots) → slotAt (stored n m w .slots) (w .rnr) ≡ record { rbar = w .rbar; rasr = w .rasr }
   unfolding stored
   slot-stored h l = rw (lt-ltb _ _ h) (getD-set-same (m .slots) (w .rnr) _ _ l)
 

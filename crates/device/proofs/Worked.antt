@@ -15,7 +15,7 @@ use Rattle.device.specs.declared.Answer.the-variants.{Private, Unchecked
 use Rattle.device.specs.Registers.{slotCount, ctrl, allowed}
 use Rattle.device.specs.RegisterWrite.{triple, writeNo}
 use Rattle.device.specs.Permission.{rowAnswer}
-use Rattle.device.specs.Decision.{bad, matches, judged, decision}
+use Rattle.device.specs.Decision.{bad, matches, judged, decision, numberOf}
 
 -- ---- the rows: a privileged read and write, then an unprivileged read and write
 answers : ℕ → List Answer
@@ -109,3 +109,7 @@ refused c rnr rbar rasr = writeNo slotCount (worked c) (record { rnr = rnr; rbar
 writes-worked : refused 0 7 32 0 ∷ refused 1 8 0 0 ∷ refused 4 7 16 0 ∷ refused 5 ctrl 16 4 ∷ refused 0 ctrl 0 2 ∷ refused 2 ctrl 0 0 ∷ refused 3 8 16 9 ∷ [] ≡ 0 ∷ 10 ∷ 11 ∷ 0 ∷ 12 ∷ 12 ∷ 12 ∷ []
 unfolding writeNo triple allowed
 writes-worked = refl
+
+-- ---- the numbers of the answers: only a refused one has one
+numbers-worked : map numberOf (Private ∷ Unchecked ∷ Undefined ∷ Permitted ∷ Denied ∷ Refused ∷ []) ≡ 0 ∷ 0 ∷ 0 ∷ 0 ∷ 0 ∷ 12 ∷ []
+numbers-worked = refl

@@ -5,10 +5,10 @@ ghost use Prim.Native.Nat.{_<_, _/_, _%_};
 ghost use Rattle.laws.specs.Search.{some, highest};
 ghost use Rattle.device.specs.Registers.{slotCount, allowed};
 ghost use Rattle.device.specs.RegisterWrite.{tripleNo, stored, writeRegister};
-ghost use Rattle.device.specs.Permission.{rowAnswer, unpacked, answered};
+ghost use Rattle.device.specs.Permission.{rowAt, rowAnswer, packed, unpacked, answered};
 ghost use Rattle.device.specs.Decision.{bad, badAt, matches, matchesAt, privateBus, unmatched, judged, decision, numberOf, decisionNo};
 
-pub const SLOTS: u32 = 8;
+pub const SLOTS: usize = 8;
 
 // The register number that names the control.
 pub const CTRL: u32 = 4294967295;
@@ -18,6 +18,19 @@ const PRIVATE_FIRST: u32 = 0xE000_0000;
 const PRIVATE_LAST: u32 = 0xE00F_FFFF;
 
 const LEAST_SIZE: u32 = 4;
+
+// Where a field begins, as the value of its lowest bit. RBAR:
+const VALID_AT: u32 = 16;
+
+// RASR:
+const SIZE_AT: u32 = 2;
+
+const SUBREGIONS_AT: u32 = 256;
+
+const AP_AT: u32 = 16777216;
+
+// Control:
+const PRIVDEFENA_AT: u32 = 4;
 
 // A right of a permission row is one octal digit: read 1, read and write 3, undefined 4.
 const UNDEFINED: u32 = 4;
@@ -39,7 +52,7 @@ pub struct Pair {
 }
 
 pub struct Mpu {
-    pub slots: [Pair; 8],
+    pub slots: [Pair; SLOTS],
     pub control: u32,
 }
 
@@ -92,8 +105,8 @@ pub fn is_allowed(control: u32) -> bool
 pub fn refused_write(w: Write) -> u32
     ensures { λ r. ⌜ r ≡ tripleNo slotCount w ⌝ }
 {
-    if w.rnr < SLOTS {
-        if w.rbar / 16 % 2 == 1 {
+    if (w.rnr as usize) < SLOTS {
+        if w.rbar / VALID_AT % 2 == 1 {
             return 11;
         }
         return 0;
@@ -146,8 +159,8 @@ fn store(m: Mpu, w: Write) -> Mpu
     ensures { λ r. ⌜ r ≡ stored slotCount m w ⌝ }
 {
     let mut n = m;
-    if w.rnr < SLOTS {
-        let i = w.rnr as usize;
+    let i = w.rnr as usize;
+    if i < SLOTS {
         n.slots[i] = Pair {
             rbar: w.rbar,
             rasr: w.rasr,
@@ -177,15 +190,15 @@ fn judge(m: Mpu, a: Access) -> Answer
         return background(m.control, a.privileged);
     }
     let p = slots[at - 1];
-    by_row(p.rasr / 16777216 % 8, a)
+    by_row(p.rasr / AP_AT % 8, a)
 }
 
 // Is some enabled slot one whose answer the paper leaves open?
-fn some_bad(slots: [Pair; 8]) -> bool
+fn some_bad(slots: [Pair; SLOTS]) -> bool
     ensures { λ r. ⌜ r ≡ some (badAt slots) 0 slotCount ⌝ }
 {
     let mut i = 0;
-    while i < 8 {
+    while i < SLOTS {
         if is_bad(slots[i]) {
             return true;
         }
@@ -195,10 +208,10 @@ fn some_bad(slots: [Pair; 8]) -> bool
 }
 
 // One more than the highest slot that matches; 0 where none does.
-fn deciding(slots: [Pair; 8], address: u32) -> usize
+fn deciding(slots: [Pair; SLOTS], address: u32) -> usize
     ensures { λ r. ⌜ r ≡ highest (matchesAt slots address) slotCount ⌝ }
 {
-    let mut i: usize = 8;
+    let mut i = SLOTS;
     while 0 < i {
         if is_match(slots[i - 1], address) {
             return i;
@@ -214,7 +227,7 @@ fn is_bad(p: Pair) -> bool
     if p.rasr % 2 == 0 {
         return false;
     }
-    p.rasr / 2 % 32 < LEAST_SIZE || p.rasr / 256 % 256 != 0
+    p.rasr / SIZE_AT % 32 < LEAST_SIZE || p.rasr / SUBREGIONS_AT % 256 != 0
 }
 
 // Two shifts divide by 2^(SIZE + 1), also where that is 2^32.
@@ -224,7 +237,7 @@ fn is_match(p: Pair, address: u32) -> bool
     if p.rasr % 2 == 0 {
         return false;
     }
-    let size = p.rasr / 2 % 32;
+    let size = p.rasr / SIZE_AT % 32;
     (address >> size) >> 1 == (p.rbar >> size) >> 1
 }
 
@@ -233,13 +246,20 @@ fn by_row(ap: u32, a: Access) -> Answer
     requires { ⌜ ap < 8 ⌝ }
     ensures { λ r. ⌜ r ≡ rowAnswer ap (a .privileged) (a .kind) ⌝ }
 {
-    let row = ROWS[ap as usize];
+    let row = row_of(ap);
     let kind = a.kind;
     if a.privileged {
         grant(row % 8, kind)
     } else {
         grant(row / 8, kind)
     }
+}
+
+fn row_of(ap: u32) -> u32
+    requires { ⌜ ap < 8 ⌝ }
+    ensures { λ r. ⌜ r ≡ packed (rowAt ap) ⌝ }
+{
+    ROWS[ap as usize]
 }
 
 fn grant(right: u32, kind: Kind) -> Answer
@@ -259,7 +279,7 @@ fn background(control: u32, privileged: bool) -> Answer
     ensures { λ r. ⌜ r ≡ unmatched control privileged ⌝ }
 {
     if privileged {
-        permit(control / 4 % 2 == 1)
+        permit(control / PRIVDEFENA_AT % 2 == 1)
     } else {
         Answer::Denied
     }

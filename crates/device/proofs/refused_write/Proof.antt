@@ -38,4 +38,4 @@ returns-5 c =
     rw (le-ltb _ _ (e .before .before .if1 .left), eq-eqb _ _ (e .if3 .left), sym (c .before .is-allowed .ensures) ∙ c .if4 .left)
 
 pub refused-write-spec : {M : Type 1} → statement M
-refused-write-spec = tie.close (tie.spec returns returns-2 returns-3 (λ c κs. search needs) returns-4 returns-5)
+refused-write-spec = tie.close (tie.spec (λ c. search needs) returns returns-2 returns-3 (λ c κs. search needs) returns-4 returns-5)

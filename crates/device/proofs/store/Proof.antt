@@ -7,7 +7,7 @@ use Rattle.device.proofs.store.Tie as tie
 
 returns : tie.Need-returns
 unfolding stored
-returns c = rw (lt-ltb _ _ (c .before .if1 .taken))
+returns c = rw (lt-ltb _ _ (c .if1 .taken))
 
 returns-2 : tie.Need-returns-2
 unfolding stored
