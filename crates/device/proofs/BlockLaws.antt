@@ -34,10 +34,20 @@ module _ (k a b : ℕ) where
 abbrev pub start : Pair → ℕ
 start p = p .rbar / 2 ^ (sizeField p + 1) * 2 ^ (sizeField p + 1)
 
-pub matches-exactly : (x : ℕ) (p : Pair) → (matches x p ≡ true) ↔ ((enabled p ≡ true) × Within (start p) (sizeField p + 1) x)
-unfolding matches
-matches-exactly x p =
-    Iff·trans (and-exactly _ _) (Iff·and Iff·rfl (Iff·trans (eq-exactly _ _) (same-block (sizeField p + 1) x (p .rbar))))
+module _ (x : ℕ) (p : Pair) where
+  abbrev quotients : Type 0
+  quotients = x / 2 ^ (sizeField p + 1) ≡ p .rbar / 2 ^ (sizeField p + 1)
+
+  matches-quotients : (matches x p ≡ true) ↔ ((enabled p ≡ true) × quotients)
+  unfolding matches
+  matches-quotients = Iff·trans (and-exactly _ _) (Iff·and Iff·rfl (eq-exactly _ _))
+
+  pub matches-exactly : (matches x p ≡ true) ↔ ((enabled p ≡ true) × Within (start p) (sizeField p + 1) x)
+  matches-exactly = Iff·trans matches-quotients (Iff·and Iff·rfl (same-block (sizeField p + 1) x (p .rbar)))
+
+  -- the block of a slot whose RBAR is a multiple of its size starts there
+  pub matches-aligned : p .rbar % 2 ^ (sizeField p + 1) ≡ 0 → (matches x p ≡ true) ↔ ((enabled p ≡ true) × Within (p .rbar) (sizeField p + 1) x)
+  matches-aligned e = Iff·trans matches-quotients (Iff·and Iff·rfl (aligned-block (sizeField p + 1) x (p .rbar) e))
 
 -- SIZE 31 matches all
 pub matches-all : (x : ℕ) (p : Pair) → x < 2 ^ 32 → p .rbar < 2 ^ 32 → enabled p ≡ true → sizeField p ≡ 31 → matches x p ≡ true
