@@ -1,6 +1,6 @@
 -- Two numbers have one quotient by 2^k exactly if the first lies in the second's aligned block: the quotient's multiple is at most the number,
 -- and the next multiple is above it. So a slot matches exactly the bytes of its block. Assumes nothing.
-use mathlib.Core.Path.{_≡_, refl, sym, _∙_, ap}
+use mathlib.Core.Path.{_≡_}
 use mathlib.Core.Bool.{true}
 use mathlib.Core.Logic.{_↔_, Iff·trans, Iff·and, Iff·rfl}
 use Prim.Native.Nat.{ℕ, _+_, _*_, _/_, _%_, _^_, _≤_, _<_}

@@ -1,9 +1,9 @@
--- Bits that are ignored are ignored. An enabled slot that is not bad has SIZE 4 or more, so that its block is made of blocks of 32 bytes and the
--- quotient of RBAR by 32 says where it lies. So both searches come out alike in two states that agree on the other bits. Assumes nothing.
+-- Bits that are ignored are ignored, and so are all bits of a slot that is not enabled. An enabled slot that is not bad has SIZE 4 or more, so that
+-- its block is made of blocks of 32 bytes, and the quotient of RBAR by 32 says where it lies. So both searches come out alike in two states that
+-- agree on the bits that matter. Assumes nothing.
 use mathlib.Core.Path.{_≡_, refl, sym, _∙_}
 use mathlib.Core.Bool.{Bool, true, false, true≢false}
 use mathlib.Core.Logic.{inl}
-use mathlib.Core.List.{List}
 use Prim.Native.Nat.{ℕ, zero, suc, _+_, _-_, _/_, _%_, _^_, _≤_, _<_, zero-le}
 use native.Mathlib.Nat.{le-refl}
 use native.Mathlib.Omega.{arith}
@@ -12,7 +12,7 @@ use lib.Dec.{ltb, eqb}
 use lib.Pow.{shr-shr}
 use Rattle.laws.specs.Pick.{pick}
 use Rattle.laws.specs.Search.{some, highest}
-use Rattle.laws.proofs.SearchLaws.{highest-greatest, none-exactly, some-exactly}
+use Rattle.laws.proofs.SearchLaws.{Greatest, highest-greatest, none-exactly, some-exactly}
 use Rattle.laws.proofs.BoolLaws.{same-test}
 use Rattle.device.specs.declared.Pair.{Pair}
 use Rattle.device.specs.declared.Mpu.{Mpu}
@@ -21,20 +21,29 @@ use Rattle.device.specs.declared.Answer.the-variants.{Undefined}
 use Rattle.device.specs.Registers.{slotAt, enabled, sizeField, subregions, apField}
 use Rattle.device.specs.Permission.{rowAnswer}
 use Rattle.device.specs.Decision.{leastSize, bad, badAt, matches, matchesAt, deciding, unmatched, judged, decision}
+use Rattle.device.proofs.BlockLaws.{matches-exactly}
 use Rattle.device.proofs.JudgedLaws.{bad-exactly}
 
--- two pairs agree on the bits that matter: RASR 0, 5:1, 15:8 and 26:24, RBAR 31:5
-pub record Alike (p q : Pair) : Type 0 where
-  pub enable : p .rasr % 2 ≡ q .rasr % 2
+-- the bits of an enabled slot that matter: RASR 5:1, 15:8 and 26:24, RBAR 31:5
+pub record Agree (p q : Pair) : Type 0 where
   pub size : sizeField p ≡ sizeField q
   pub subregion : subregions p ≡ subregions q
   pub ap : apField p ≡ apField q
   pub base : p .rbar / 32 ≡ q .rbar / 32
 
+-- RASR bit 0 agrees, and the other bits where it is set
+pub record Alike (p q : Pair) : Type 0 where
+  pub enable : p .rasr % 2 ≡ q .rasr % 2
+  pub fields : enabled p ≡ true → Agree p q
+
 module _ {p q : Pair} (s : Alike p q) where
   bad-alike : bad p ≡ bad q
   unfolding bad
-  bad-alike = rw (s .enable, s .size, s .subregion)
+  bad-alike = by (enabled p) refl
+    where
+      by : (b : Bool) → enabled p ≡ b → bad p ≡ bad q
+      by true e = rw (← s .enable, s .fields e .size, s .fields e .subregion)
+      by false e = rw (← s .enable, e)
 
   matches-alike : (x : ℕ) → bad p ≡ false → matches x p ≡ matches x q
   unfolding matches
@@ -49,7 +58,7 @@ module _ {p q : Pair} (s : Alike p q) where
       by true true e f = absurd (true≢false (sym (bad-exactly p .1 (e, inl (ltb-true _ _ f))) ∙ sound))
       by true false e f =
           let h : leastSize ≤ sizeField p = ltb-false _ _ f in
-          rw (← s .enable, ← s .size, part (p .rbar) h, part (q .rbar) h, s .base)
+          rw (← s .enable, ← s .fields e .size, part (p .rbar) h, part (q .rbar) h, s .fields e .base)
 
 -- ---- searches whose tests agree below n
 module _ {f g : ℕ → Bool} where
@@ -68,16 +77,17 @@ module _ {f g : ℕ → Bool} where
 module _ (n : ℕ) (m o : Mpu) (a : Access) (control : m .control ≡ o .control) (slots : (k : ℕ) → k < n → Alike (slotAt (m .slots) k) (slotAt (o .slots) k)) where
   judged-alike : ((k : ℕ) → k < n → badAt (m .slots) k ≡ false) → judged n m a ≡ judged n o a
   unfolding judged
-  judged-alike sound = rw (← same) (by (deciding n (m .slots) (a .address)) (highest-greatest _ n .within))
+  judged-alike sound = rw (← same) (by (deciding n (m .slots) (a .address)) (highest-greatest _ n))
     where
       same : deciding n (m .slots) (a .address) ≡ deciding n (o .slots) (a .address)
       same = highest-same n (λ k h. matches-alike (slots k h) (a .address) (sound k h))
 
-      by : (d : ℕ) → d ≤ n → pick (eqb d 0) (unmatched (m .control) (a .privileged)) (rowAnswer (apField (slotAt (m .slots) (d - 1))) (a .privileged) (a .kind)) ≡ pick (eqb d 0) (unmatched (o .control) (a .privileged)) (rowAnswer (apField (slotAt (o .slots) (d - 1))) (a .privileged) (a .kind))
-      by zero h = rw control
-      by (suc k) h =
+      by : (d : ℕ) → Greatest (matchesAt (m .slots) (a .address)) n d → pick (eqb d 0) (unmatched (m .control) (a .privileged)) (rowAnswer (apField (slotAt (m .slots) (d - 1))) (a .privileged) (a .kind)) ≡ pick (eqb d 0) (unmatched (o .control) (a .privileged)) (rowAnswer (apField (slotAt (o .slots) (d - 1))) (a .privileged) (a .kind))
+      by zero g = rw control
+      by (suc k) g =
           let less : suc k - 1 ≡ k = omega arith in
-          rw (ne-eqb (suc k) 0 (λ e. omega arith), less, slots k h .ap)
+          let on = matches-exactly (a .address) (slotAt (m .slots) k) .0 (rw less at (g .passes (omega arith))) .0 in
+          rw (ne-eqb (suc k) 0 (λ e. omega arith), less, slots k (g .within) .fields on .ap)
 
   pub answers-alike : decision n m a ≡ decision n o a
   unfolding decision

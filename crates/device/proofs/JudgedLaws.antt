@@ -1,9 +1,8 @@
 -- The answers that the slots give. The search for a bad slot answers first; then the highest matching slot decides by its row, and where none
 -- matches the background does. Assumes nothing.
 use mathlib.Core.Path.{_≡_, refl, sym, _∙_}
-use mathlib.Core.Bool.{Bool, true, false, not, _&&_, _||_}
+use mathlib.Core.Bool.{Bool, true, false, not, _&&_}
 use mathlib.Core.Logic.{_↔_, _⊎_, inl, inr, Iff·trans, Iff·and, Iff·rfl}
-use mathlib.Core.List.{List}
 use Prim.Native.Nat.{ℕ, zero, suc, _-_, _/_, _%_, _<_, zero-le}
 use native.Mathlib.Omega.{arith}
 use borrow.Author.Tests.{ne-eqb}
@@ -15,7 +14,7 @@ use Rattle.device.specs.declared.Pair.{Pair}
 use Rattle.device.specs.declared.Mpu.{Mpu}
 use Rattle.device.specs.declared.Access.{Access}
 use Rattle.device.specs.declared.Answer.{Answer}
-use Rattle.device.specs.declared.Answer.the-variants.{Undefined, Permitted, Denied}
+use Rattle.device.specs.declared.Answer.the-variants.{Undefined, Permitted}
 use Rattle.device.specs.Registers.{slotAt, enabled, sizeField, subregions, apField, enables, privDefEna, allowed}
 use Rattle.device.specs.Permission.{answered, rowAnswer}
 use Rattle.device.specs.Decision.{leastSize, privateBus, bad, badAt, matchesAt, deciding, unmatched, judged, decision}

@@ -2,19 +2,18 @@
 -- a slot, the control or neither, and a slot's number is below the control's. Assumes nothing.
 use mathlib.Core.Path.{_≡_, refl, sym, _∙_}
 use mathlib.Core.Bool.{Bool, true, false, not, _&&_, true≢false}
-use mathlib.Core.Logic.{_↔_, _⊎_, inl, inr, Iff·trans, Iff·and, Iff·rfl, true-and}
+use mathlib.Core.Logic.{_↔_, _⊎_, inl, inr, ⊎-elim, Iff·trans, Iff·and, true-and}
 use Prim.Native.Nat.{ℕ, _/_, _%_, _≤_, _<_}
-use native.Mathlib.Nat.{lt-of-lt-of-le, not-le-of-lt, le-of-eq}
-use borrow.Author.Tests.{lt-ltb, le-ltb, ltb-true, ltb-false, eq-eqb, eqb-true, ne-eqb, eqb-false, not-true, not-false}
+use borrow.Author.Tests.{lt-ltb, le-ltb, ltb-true, eq-eqb, eqb-true, ne-eqb, eqb-false, not-false}
 use lib.Dec.{lit<}
+use Rattle.laws.specs.Pick.{pick}
 use Rattle.laws.specs.Refuse.{Quiet}
 use Rattle.laws.proofs.RefuseLaws.{given, accepted}
 use Rattle.device.specs.declared.Mpu.{Mpu}
 use Rattle.device.specs.declared.Write.{Write}
-use Rattle.device.specs.declared.Written.{Written}
 use Rattle.device.specs.Registers.{ctrl, allowed}
 use Rattle.device.specs.RegisterWrite.{slotNamed, ctrlNamed, valid, triple, tripleNo, writeNo, writeRegister}
-use Rattle.device.proofs.TestLaws.{and-exactly, not-exactly, unless-exactly, lt-exactly, ge-exactly, eq-exactly, ne-exactly}
+use Rattle.device.proofs.TestLaws.{and-exactly, not-exactly, lt-exactly, ge-exactly, eq-exactly, ne-exactly}
 
 -- ---- by the triple alone
 module _ (n : ℕ) (w : Write) where
@@ -76,6 +75,15 @@ module _ (n : ℕ) (m : Mpu) (w : Write) where
   pub held-allowed : allowed (m .control) ≡ true → writeNo n m w ≡ tripleNo n w
   unfolding writeNo tripleNo
   held-allowed e = rw e
+
+  -- a write's number: the triple's own where the held control is allowed, 12 where it is not
+  pub number-exactly : (k : ℕ) → (writeNo n m w ≡ k) ↔ (((allowed (m .control) ≡ true) × (tripleNo n w ≡ k)) ⊎ ((allowed (m .control) ≡ false) × (12 ≡ k)))
+  unfolding writeNo tripleNo
+  number-exactly k = by (allowed (m .control))
+    where
+      by : (h : Bool) → (pick (not h) 12 (tripleNo n w) ≡ k) ↔ (((h ≡ true) × (tripleNo n w ≡ k)) ⊎ ((h ≡ false) × (12 ≡ k)))
+      by true = (λ e. inl (refl, e), λ c. ⊎-elim (λ p. p .1) (λ p. absurd (true≢false (p .0))) c)
+      by false = (λ e. inr (refl, e), λ c. ⊎-elim (λ p. absurd (true≢false (sym (p .0)))) (λ p. p .1) c)
 
   -- a refused write hands back the MPU as received
   pub refused-kept : ¬ (writeNo n m w ≡ 0) → writeRegister n m w ≡ record { no = writeNo n m w; mpu = m }

@@ -1,9 +1,8 @@
 -- What an accepted register write stores and what stays: `set` at the slot's place of the list, or the control alone. Assumes nothing.
 use mathlib.Core.Path.{_≡_, refl, sym, _∙_}
-use mathlib.Core.Bool.{Bool, true, false, true≢false}
+use mathlib.Core.Bool.{Bool, true, false}
 use mathlib.Core.Logic.{_⊎_, inl, inr}
 use Prim.Native.Nat.{ℕ, _/_, _%_, _≤_, _<_}
-use native.Mathlib.Nat.{lt-of-lt-of-le}
 use borrow.Author.Tests.{lt-ltb, le-ltb, eqb-true, eqb-false}
 use lib.Dec.{eqb}
 use lib.ListN.{length, set, length-set}
@@ -16,7 +15,7 @@ use Rattle.device.specs.declared.Mpu.{Mpu}
 use Rattle.device.specs.declared.Write.{Write}
 use Rattle.device.specs.Registers.{ctrl, slotAt, allowed}
 use Rattle.device.specs.RegisterWrite.{slotNamed, pairOf, writeNo, stored, writeRegister}
-use Rattle.device.proofs.RefusedWriteLaws.{held-bad, held-allowed, refused-kept, zero-exactly}
+use Rattle.device.proofs.RefusedWriteLaws.{held-allowed, refused-kept, zero-exactly}
 
 module _ (n : ℕ) (m : Mpu) (w : Write) where
   pub accepted-stored : writeNo n m w ≡ 0 → writeRegister n m w ≡ record { no = 0; mpu = stored n m w }

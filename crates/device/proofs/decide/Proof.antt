@@ -5,9 +5,8 @@ use Prim.Native.Nat.{_%_}
 use native.Mathlib.Omega.{arith}
 use borrow.Author.Needs.{needs}
 use borrow.Author.Tests.{eq-eqb, ne-eqb, not-true, not-false}
-use Rattle.laws.specs.Search.{some}
 use Rattle.device.specs.Registers.{slotCount, allowed, enables}
-use Rattle.device.specs.Decision.{privateBus, badAt, decision}
+use Rattle.device.specs.Decision.{privateBus, decision}
 use Rattle.device.proofs.NumberLaws.{in-numbers}
 use Rattle.device.proofs.decide.Statement.{statement}
 use Rattle.device.proofs.decide.Tie as tie

@@ -1,9 +1,9 @@
 -- The deciding slot is what the walk down answers, and lies among the eight; where there is none, the background answers. Assumes nothing.
-use mathlib.Core.Path.{_≡_, sym, subst}
-use Prim.Native.Nat.{ℕ, _≤_, _-_}
+use mathlib.Core.Path.{sym, subst}
+use Prim.Native.Nat.{ℕ, _≤_}
 use native.Mathlib.Omega.{arith}
 use borrow.Author.Needs.{needs}
-use borrow.Author.Tests.{eq-eqb, ne-eqb}
+use borrow.Author.Tests.{ne-eqb}
 use Rattle.laws.proofs.SearchLaws.{highest-greatest}
 use Rattle.device.specs.Registers.{slotCount}
 use Rattle.device.specs.Decision.{judged}

@@ -1,10 +1,8 @@
 -- 12 for the held control first; the rest of the list is the triple's own. Assumes nothing.
 use mathlib.Core.Path.{_≡_, sym, _∙_}
-use mathlib.Core.Bool.{true}
 use borrow.Author.Needs.{needs}
-use borrow.Author.Tests.{eq-eqb, ne-eqb, not-true, not-false}
-use Rattle.device.specs.Registers.{allowed}
-use Rattle.device.specs.RegisterWrite.{triple, tripleNo, writeNo, writeRegister}
+use borrow.Author.Tests.{ne-eqb, not-true, not-false}
+use Rattle.device.specs.RegisterWrite.{tripleNo, writeNo, writeRegister}
 use Rattle.device.proofs.write_register.Statement.{statement}
 use Rattle.device.proofs.write_register.Tie as tie
 
