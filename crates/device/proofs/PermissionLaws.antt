@@ -7,7 +7,8 @@ use Rattle.device.specs.declared.Kind.{Kind}
 use Rattle.device.specs.declared.Kind.the-variants.{Read, Write}
 use Rattle.device.specs.declared.Answer.{Answer}
 use Rattle.device.specs.declared.Answer.the-variants.{Undefined, Permitted, Denied}
-use Rattle.device.specs.Permission.{Right, none, read, readWrite, undefined, Row, grants, digit, packed, unpacked}
+use Rattle.device.specs.Permission.{Right, none, read, readWrite, undefined, Row, grants}
+use Rattle.device.specs.Packing.{digit, packed, unpacked}
 
 pub digit-answers : (r : Right) (k : Kind) → unpacked (digit r) k ≡ grants r k
 digit-answers none Read = refl

@@ -4,9 +4,10 @@
 --   matches x p      == the slot is enabled, and x and RBAR, both divided by 2^(SIZE+1), are equal
 --   deciding n ss x  == one more than the highest of n slots that matches; 0 where none does
 --   unmatched c p    == what is answered where no slot matches
+--   judged n m a     == rules 4 and 5: the deciding slot's row answers, or no slot matches
 --   decision n m a   == the answer of the MPU m, of n slots, to the access a
 --   numberOf, nameOf == the number and the word of the paper for an answer
---   decisionNo m     == the number that is due
+--   decisionNo m     == the number that is due: 12 for a control outside the list
 use mathlib.Core.Bool.{Bool, not, _&&_, _||_}
 use mathlib.Core.List.{List, [], _∷_}
 use Prim.Native.Nat.{ℕ, _+_, _-_, _/_, _^_}

@@ -1,6 +1,7 @@
 -- One register write, of a triple (register, RBAR, RASR).
 --   slotNamed n w      == the register is one of the n slots
 --   ctrlNamed w        == the register is the control
+--   valid w            == RBAR bit 4
 --   triple n w         == what refuses the triple alone, in the order of the paper: 10, 11, 12
 --   tripleNo n w       == the number of the first that holds; 0 for a sound triple
 --   writeNo n m w      == the same of a write to the MPU m: 12 for the held control, then by the triple
@@ -25,7 +26,6 @@ slotNamed n w = ltb (w .rnr) n
 abbrev pub ctrlNamed : Write → Bool
 ctrlNamed w = eqb (w .rnr) ctrl
 
--- RBAR bit 4
 abbrev pub valid : Write → Bool
 valid w = bit (w .rbar / 16)
 

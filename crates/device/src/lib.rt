@@ -5,7 +5,8 @@ ghost use Prim.Native.Nat.{_<_, _/_, _%_};
 ghost use Rattle.laws.specs.Search.{some, highest};
 ghost use Rattle.device.specs.Registers.{slotCount, allowed};
 ghost use Rattle.device.specs.RegisterWrite.{tripleNo, stored, writeRegister};
-ghost use Rattle.device.specs.Permission.{rowAt, rowAnswer, packed, unpacked, answered};
+ghost use Rattle.device.specs.Permission.{rowAt, rowAnswer, answered};
+ghost use Rattle.device.specs.Packing.{packed, unpacked};
 ghost use Rattle.device.specs.Decision.{bad, badAt, matches, matchesAt, privateBus, unmatched, judged, decision, numberOf, decisionNo};
 
 pub const SLOTS: usize = 8;

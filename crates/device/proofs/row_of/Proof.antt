@@ -7,7 +7,8 @@ use borrow.Author.Needs.{needs}
 use borrow.Author.Tests.{eqb-true}
 use lib.Dec.{eqb}
 use Rattle.laws.proofs.RowsLaws.{row-rule}
-use Rattle.device.specs.Permission.{rows, rowAt, packed}
+use Rattle.device.specs.Permission.{rows, rowAt}
+use Rattle.device.specs.Packing.{packed}
 use Rattle.device.proofs.row_of.Statement.{statement}
 use Rattle.device.proofs.row_of.Tie as tie
 
