@@ -14,7 +14,7 @@ use Rattle.device.specs.declared.Pair.{Pair}
 use Rattle.device.specs.declared.Mpu.{Mpu}
 use Rattle.device.specs.declared.Access.{Access}
 use Rattle.device.specs.declared.Answer.{Answer}
-use Rattle.device.specs.declared.Answer.the-variants.{Undefined, Permitted}
+use Rattle.device.specs.declared.Answer.the-variants.{Undefined, Permitted, Denied}
 use Rattle.device.specs.Registers.{slotAt, enabled, sizeField, subregions, apField, enables, privDefEna, allowed}
 use Rattle.device.specs.Permission.{answered, rowAnswer}
 use Rattle.device.specs.Decision.{leastSize, privateBus, bad, badAt, matchesAt, deciding, unmatched, judged, decision}
@@ -34,16 +34,24 @@ bad-exactly p = Iff·trans (and-exactly _ _) (λ h. (h .0, size (or-exactly _ _ 
     test (inl h) = inl (lt-exactly _ _ .1 h)
     test (inr h) = inr (not-exactly _ .1 (ne-exactly _ _ .1 h))
 
--- ---- what the background permits: to privileged code, where PRIVDEFENA is set
-pub background-exactly : (c : ℕ) (p : Bool) → (unmatched c p ≡ Permitted) ↔ ((p ≡ true) × (c / 4 % 2 ≡ 1))
-background-exactly c p = (λ e. facts .0 (by _ e), λ h. rw (facts .1 h))
-  where
-    facts : ((p && eqb (c / 4 % 2) 1) ≡ true) ↔ ((p ≡ true) × (c / 4 % 2 ≡ 1))
-    facts = Iff·trans (and-exactly _ _) (Iff·and (Iff·rfl) (eq-exactly _ _))
+-- ---- the background permits privileged code where PRIVDEFENA is set, and denies all else
+module _ (c : ℕ) (p : Bool) where
+  facts : ((p && privDefEna c) ≡ true) ↔ ((p ≡ true) × (c / 4 % 2 ≡ 1))
+  facts = Iff·trans (and-exactly _ _) (Iff·and Iff·rfl (eq-exactly _ _))
 
-    by : (b : Bool) → answered b ≡ Permitted → b ≡ true
-    by true e = refl
-    by false e = cc
+  pub background-exactly : (unmatched c p ≡ Permitted) ↔ ((p ≡ true) × (c / 4 % 2 ≡ 1))
+  background-exactly = (λ e. facts .0 (by (p && privDefEna c) e), λ h. rw (facts .1 h))
+    where
+      by : (b : Bool) → answered b ≡ Permitted → b ≡ true
+      by true e = refl
+      by false e = cc
+
+  pub background-else : ¬ ((p ≡ true) × (c / 4 % 2 ≡ 1)) → unmatched c p ≡ Denied
+  background-else h = by (p && privDefEna c) refl
+    where
+      by : (b : Bool) → (p && privDefEna c) ≡ b → answered b ≡ Denied
+      by true e = absurd (h (facts .0 e))
+      by false e = refl
 
 module _ (n : ℕ) (m : Mpu) (a : Access) where
   abbrev row : ℕ → Answer
