@@ -1,4 +1,5 @@
 pub mod BoolLaws
+pub mod TestLaws
 pub mod RefuseLaws
 pub mod SearchLaws
 pub mod PairLaws

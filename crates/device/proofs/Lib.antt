@@ -1,0 +1,12 @@
+pub mod ControlLaws
+pub mod BlockLaws
+pub mod RefusedWriteLaws
+pub mod StoredLaws
+pub mod PermissionLaws
+pub mod RuleLaws
+pub mod DecidingLaws
+pub mod JudgedLaws
+pub mod IgnoredBits
+pub mod Determined
+pub mod Worked
+pub mod NumberLaws
