@@ -6,10 +6,12 @@ use Prim.Native.Nat.{ℕ, _+_, _-_, _*_, _/_, _%_, _^_, _≤_, _<_}
 use native.Mathlib.Omega.{arith}
 use borrow.Author.Tests.{ne-eqb}
 use Rattle.laws.specs.Refuse.{refuse}
+use Rattle.region.specs.Sound.{regionNo}
+use Rattle.region.proofs.SoundLaws.{sound-facts}
 use Rattle.fields.specs.declared.Attributes.{Attributes}
 use Rattle.fields.specs.declared.Field.{Field}
 use Rattle.fields.specs.Fields.{sizeField, apField, rasr, sizing, answer, sizeAnswer, rasrAnswer}
-use Rattle.fields.proofs.SizeLaws.{Sized, size-sized}
+use Rattle.fields.proofs.SizeLaws.{size-accepted, size-sized}
 
 -- ---- RASR is refused as SIZE is, and then both are the number beside 0
 pub rasr-number : (a : Attributes) → rasrAnswer a .no ≡ sizeAnswer (a .size) .no
@@ -23,6 +25,12 @@ rasr-refused a h = rw (ne-eqb (refuse (sizing (a .size))) 0 h)
 pub rasr-accepted : (a : Attributes) → sizeAnswer (a .size) .no ≡ 0 → rasrAnswer a ≡ answer 0 (rasr a)
 unfolding rasrAnswer sizeAnswer
 rasr-accepted a h = rw h
+
+-- a sound region's size is accepted
+pub size-of-sound : (base size : ℕ) → regionNo base size ≡ 0 → sizeAnswer size .no ≡ 0
+size-of-sound base size e =
+    let s = sound-facts base size e in
+    size-accepted size (omega (arith, s .fits)) .1 (s .power, s .least)
 
 -- ---- the fields of an accepted RASR: bit 0, bits 5:1, bits 26:24, and the bits between and above
 pub record Holds (v size ap : ℕ) : Type 0 where

@@ -1,7 +1,7 @@
 -- A test taken apart, and two tests compared, by their two cases. Assumes nothing.
 use mathlib.Core.Path.{_≡_, refl, sym, _∙_}
 use mathlib.Core.Bool.{Bool, true, false, _&&_, _||_, true≢false}
-use mathlib.Core.Logic.{_↔_}
+use mathlib.Core.Logic.{_↔_, _⊎_, inl, inr}
 use Rattle.laws.specs.Pick.{pick}
 
 pub and-left : (a b : Bool) → (a && b) ≡ true → a ≡ true
@@ -66,3 +66,8 @@ fails-unless {b} = by b
     by : (b : Bool) → (b ≡ true → ⊥) → b ≡ false
     by true n = absurd (n refl)
     by false n = refl
+
+-- which of two was picked
+pub pick-cases : {X : Type 0} (b : Bool) {x y z : X} → pick b x y ≡ z → ((b ≡ true) × (x ≡ z)) ⊎ ((b ≡ false) × (y ≡ z))
+pick-cases true e = inl (refl, e)
+pick-cases false e = inr (refl, e)

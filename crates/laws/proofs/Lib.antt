@@ -5,3 +5,4 @@ pub mod SearchLaws
 pub mod PairLaws
 pub mod RowsLaws
 pub mod PowerLaws
+pub mod ListedLaws

@@ -4,13 +4,13 @@ use mathlib.Core.Path.{_≡_, refl, sym, _∙_, ap, subst}
 use mathlib.Core.Bool.{true, false}
 use mathlib.Core.Logic.{_↔_, ⊎-elim}
 use Prim.Native.Nat.{ℕ, zero, suc, _+_, _-_, _*_, _/_, _%_, _^_, _≤_, _<_, zero-le, min}
-use native.Mathlib.Nat.{pow-suc, mod-self, not-le-of-lt}
+use native.Mathlib.Nat.{pow-suc, mod-self, mul-mod-left, not-le-of-lt}
 use native.Mathlib.Decide.{decLt}
 use native.Mathlib.Numerals.{add-one}
 use native.Mathlib.Omega.{arith}
 use borrow.Author.Tests.{lt-ltb, le-ltb, eqb-true, eq-eqb}
 use lib.Dec.{ltb, eqb}
-use lib.Pow.{pow-mono, pow-lt, pow-pos}
+use lib.Pow.{pow-mono, pow-lt, pow-add}
 use lib.Arith.{bin-ind}
 use lib.Bits.{bitAnd, and-step, and-mask, and-self}
 use Rattle.laws.specs.Search.{first, lowest, Least}
@@ -52,6 +52,12 @@ zero-no-power = refl
 -- from a power to the next that is not above n
 pub next-power : (j : ℕ) {n : ℕ} → Pow2 n → 2 ^ j < n → 2 ^ (j + 1) ≤ n
 next-power j {n} p h = subst (λ (m : ℕ). 2 ^ (j + 1) ≤ m) (sym (p .1)) (pow-mono {i = j + 1} {j = p .0} (omega (arith, pow-below j (p .0) (subst (λ (m : ℕ). 2 ^ j < m) (p .1) h))))
+
+-- a power is a multiple of each lower one
+pub power-multiple : (j k : ℕ) → j ≤ k → 2 ^ k % 2 ^ j ≡ 0
+power-multiple j k h =
+    let sum : (k - j) + j ≡ k = omega arith in
+    rw (sym sum, pow-add 2 (k - j) j) (mul-mod-left (2 ^ (k - j)) (2 ^ j))
 
 -- ---- one digit
 mask-pow : (k : ℕ) → bitAnd (2 ^ k) (2 ^ k - 1) ≡ 0

@@ -4,3 +4,4 @@ pub mod Search
 pub mod Rows
 pub mod Power
 pub mod Cases
+pub mod Listed

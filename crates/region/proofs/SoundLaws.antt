@@ -1,10 +1,11 @@
 -- What the number of one region means: each exactly when the paper states it. The refusal list tells its condition, and each condition is a
 -- test whose meaning is known; that a size of 32 bits is a power of two is `pow2-exactly`. Assumes nothing.
-use mathlib.Core.Path.{_≡_, refl, ap}
+use mathlib.Core.Path.{_≡_, refl, sym, _∙_, ap}
 use mathlib.Core.Bool.{true, false, not}
 use mathlib.Core.Logic.{_↔_, Iff·trans}
 use Prim.Native.Nat.{ℕ, _+_, _%_, _^_, _≤_, _<_}
 use borrow.Author.Tests.{ltb-true, ltb-false, lt-ltb, le-ltb, eqb-true, eqb-false, eq-eqb, ne-eqb, not-true, not-false}
+use native.Mathlib.Nat.{mod-mod-of-dvd, dvd-of-mod-eq-zero}
 use native.Mathlib.Omega.{arith}
 use lib.Dec.{ltb, lit<}
 use lib.Pow.{pow-pos}
@@ -12,7 +13,7 @@ use Rattle.laws.specs.Power.{isPow2, Pow2}
 use Rattle.laws.specs.Refuse.{fresh}
 use Rattle.laws.proofs.BoolLaws.{fails-exactly}
 use Rattle.laws.proofs.RefuseLaws.{accepted, given}
-use Rattle.laws.proofs.PowerLaws.{pow2-exactly}
+use Rattle.laws.proofs.PowerLaws.{pow2-exactly, pow-below, power-multiple}
 use Rattle.region.specs.Sound.{minRegionSize, lastByte, soundness, regionNo, Sound}
 
 -- ---- what is told of the size, by this list and by that of the fields
@@ -70,6 +71,19 @@ unfolding regionNo soundness
 sound-facts base size e =
     let end : base + size ≤ lastByte = ltb-false _ _ (accepted (soundness base size) refl .0 e .1 .1 .1 .0) in
     sound-exactly base size (omega arith) .0 e
+
+-- a sound base is a multiple of the smallest size, whatever its own
+pub base-multiple : (base size : ℕ) → regionNo base size ≡ 0 → base % minRegionSize ≡ 0
+base-multiple base size e = sym (mod-mod-of-dvd minRegionSize base (dvd-of-mod-eq-zero minRegionSize whole)) ∙ ap (λ (r : ℕ). r % minRegionSize) (s .multiple)
+  where
+    s : Sound base size
+    s = sound-facts base size e
+    k : ℕ
+    k = s .power .0
+    five : 5 ≤ k
+    five = pow-below 4 k (omega (arith, s .least, s .power .1))
+    whole : size % minRegionSize ≡ 0
+    whole = rw (s .power .1) (power-multiple 5 k five)
 
 -- ---- what the source's empty lemmas only named
 pub zero-size-refused : (base : ℕ) → regionNo base 0 ≡ 2

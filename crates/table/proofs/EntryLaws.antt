@@ -4,13 +4,14 @@ use mathlib.Core.Path.{_≡_, sym, _∙_, ap, subst}
 use mathlib.Core.Bool.{false}
 use Prim.Native.Nat.{ℕ, _+_, _*_, _/_, _%_, _<_}
 use native.Mathlib.Nat.{mul-comm}
+use borrow.Author.Tests.{lt-ltb}
 use lib.Arith.{digits-div, digits-mod, digits-lt}
 use lib.ListN.{length-set, length-replicate}
 use lib.Seq.{getD-set-same, getD-set-other}
 use Rattle.table.specs.declared.Table.{Table}
 use Rattle.table.specs.declared.Entry.{Entry}
 use Rattle.table.specs.Numbers.{parts, flatIndex}
-use Rattle.table.specs.Table.{entryAt, withEntry, emptyTable, slotEntry}
+use Rattle.table.specs.Table.{entryAt, withEntry, emptyTable, slotEntry, entryAnswer}
 use Rattle.table.specs.Whole.{Whole}
 
 -- ---- one place
@@ -57,3 +58,8 @@ module _ (n : ℕ) (t : Table) (p s : ℕ) (e : Entry) (h : s < n) where
   pub slot-other : (q r : ℕ) → r < n → ¬ ((q ≡ p) × (r ≡ s)) → slotEntry n (withEntry t (flatIndex n p s) e) q r ≡ slotEntry n t q r
   unfolding slotEntry
   slot-other q r k d = with-other t (flatIndex n p s) (flatIndex n q r) e (λ x. d (flat-one n q r p s k h x))
+
+-- what the public routine answers within both bounds
+pub entry-within : (n : ℕ) (t : Table) (p s : ℕ) → p < parts → s < n → entryAnswer n t p s ≡ slotEntry n t p s
+unfolding entryAnswer
+entry-within n t p s h k = rw (lt-ltb p parts h, lt-ltb s n k)

@@ -1,38 +1,51 @@
--- What a bounded constructor tells: which number was made, or that it is beyond the bound. By the bound's test. Assumes nothing.
-use mathlib.Core.Path.{_≡_, refl, sym, _∙_, ap}
+-- What a bounded constructor tells: which number was made, or that it is beyond the bound. The two answers are told apart, so the one that came
+-- says how the bound's test came out; one law for partitions and slots. Assumes nothing.
+use mathlib.Core.Path.{_≡_, ap}
+use mathlib.Core.Logic.{⊎-elim}
 use Prim.Native.Nat.{ℕ, _≤_, _<_}
-use native.Mathlib.Decide.{decLt}
 use native.Mathlib.Omega.{arith}
-use borrow.Author.Tests.{lt-ltb, le-ltb}
+use borrow.Author.Tests.{ltb-true, ltb-false}
+use lib.Dec.{ltb}
+use Rattle.laws.specs.Pick.{pick}
+use Rattle.laws.proofs.BoolLaws.{pick-cases}
 use Rattle.table.specs.declared.numbers.Part.{Part}
 use Rattle.table.specs.declared.numbers.Parted.{Parted}
-use Rattle.table.specs.Numbers.{parts, parted}
+use Rattle.table.specs.declared.numbers.Slot.{Slot}
+use Rattle.table.specs.declared.numbers.Slotted.{Slotted}
+use Rattle.table.specs.Numbers.{parts, slots, parted, slotted}
 
-within : (n : ℕ) → n < parts → parted n ≡ Parted.Is (record { 0 = n })
-within n l = rw (lt-ltb n parts l)
+-- ---- any answer that is made below a bound, and another one beyond it
+module _ {X : Type 0} (n bound : ℕ) (made beyond : X) where
+  below : {r : X} → (beyond ≡ r → ⊥) → pick (ltb n bound) made beyond ≡ r → (n < bound) × (made ≡ r)
+  below apart e = ⊎-elim (λ h. (ltb-true _ _ (h .0), h .1)) (λ h. absurd (apart (h .1))) (pick-cases (ltb n bound) e)
 
-without : (n : ℕ) → parts ≤ n → parted n ≡ Parted.Beyond
-without n l = rw (le-ltb n parts l)
+  above : (made ≡ beyond → ⊥) → pick (ltb n bound) made beyond ≡ beyond → bound ≤ n
+  above apart e = ⊎-elim (λ h. absurd (apart (h .1))) (λ h. ltb-false _ _ (h .0)) (pick-cases (ltb n bound) e)
+
+-- ---- partitions
+no-part : (p : Part) → Parted.Beyond ≡ Parted.Is p → ⊥
+no-part p e = let z : _≡_ {A = ℕ} 0 1 = cc in omega arith
 
 pub parted-is : (n : ℕ) (p : Part) → parted n ≡ Parted.Is p → (n < parts) × (p .0 ≡ n)
-parted-is n p e = by (decLt n parts)
-  where
-    by : Dec (n < parts) → (n < parts) × (p .0 ≡ n)
-    by (yes l) =
-        let w = within n l in
-        let q : _≡_ {A = Part} p (record { 0 = n }) = cc in
-        (l, ap (λ (x : Part). x .0) q)
-    by (no l) =
-        let w = without n (omega arith) in
-        let z : _≡_ {A = ℕ} 0 1 = cc in
-        absurd (omega arith)
+parted-is n p e =
+    let b = below n parts (Parted.Is (record { 0 = n })) Parted.Beyond (no-part p) e in
+    let k = b .1 in
+    let q : _≡_ {A = Part} p (record { 0 = n }) = cc in
+    (b .0, ap (λ (x : Part). x .0) q)
 
 pub parted-beyond : (n : ℕ) → parted n ≡ Parted.Beyond → parts ≤ n
-parted-beyond n e = by (decLt n parts)
-  where
-    by : Dec (n < parts) → parts ≤ n
-    by (yes l) =
-        let w = within n l in
-        let z : _≡_ {A = ℕ} 0 1 = cc in
-        absurd (omega arith)
-    by (no l) = omega arith
+parted-beyond n = above n parts (Parted.Is (record { 0 = n })) Parted.Beyond (λ e. let z : _≡_ {A = ℕ} 0 1 = cc in omega arith)
+
+-- ---- slots
+no-slot : (s : Slot) → Slotted.Beyond ≡ Slotted.Is s → ⊥
+no-slot s e = let z : _≡_ {A = ℕ} 0 1 = cc in omega arith
+
+pub slotted-is : (n : ℕ) (s : Slot) → slotted n ≡ Slotted.Is s → (n < slots) × (s .0 ≡ n)
+slotted-is n s e =
+    let b = below n slots (Slotted.Is (record { 0 = n })) Slotted.Beyond (no-slot s) e in
+    let k = b .1 in
+    let q : _≡_ {A = Slot} s (record { 0 = n }) = cc in
+    (b .0, ap (λ (x : Slot). x .0) q)
+
+pub slotted-beyond : (n : ℕ) → slotted n ≡ Slotted.Beyond → slots ≤ n
+slotted-beyond n = above n slots (Slotted.Is (record { 0 = n })) Slotted.Beyond (λ e. let z : _≡_ {A = ℕ} 0 1 = cc in omega arith)
