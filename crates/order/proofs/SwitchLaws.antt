@@ -2,15 +2,15 @@
 -- one of `cut`: an access before the first write is told by the old state; while off, dark; after the last, by the state that the writes
 -- left. So by induction on the events. Assumes nothing.
 use mathlib.Core.Path.{_≡_, refl, _∙_, ap}
-use mathlib.Core.List.{List, [], _∷_, _++_, Forall₂}
+use mathlib.Core.List.{List, [], _∷_, _++_}
 use Prim.Native.Nat.{ℕ, suc, _<_}
 use native.Mathlib.Omega.{arith}
 use lib.ListN.{length, getD}
 use Rattle.order.specs.Play.{Event, write, ask, play, after, accesses, writes, counted}
 use Rattle.order.specs.Off.{Dark, Quiet}
-use Rattle.order.specs.Cut.{switch, under-way, cut, told, From}
+use Rattle.order.specs.Cut.{switch, under-way, cut, in-force, OneOf}
 use Rattle.order.proofs.PlayLaws.{play-none-left, counted-at}
-use Rattle.order.proofs.CutLaws.{cut-told, cut-from}
+use Rattle.order.proofs.CutLaws.{in-force-one, cut-counted}
 
 -- writes are quiet where the write at each place is (d stands for no write)
 pub quiet-at : {S W : Type 0} (put : S → W → S) (Off : S → Type 0) (ms : List W) (d : W) → ((k : ℕ) → k < length ms → (s : S) → Off s → Off (put s (getD ms k d))) → Quiet put Off ms
@@ -30,14 +30,19 @@ module _ {S W A R : Type 0} (put : S → W → S) (tell : S → A → R) (Off : 
     play-cut (ask a ∷ es) = ap (λ (rs : List R). tell s a ∷ rs) (play-cut es)
     play-cut (write ∷ es) = play-under-way (put s f) ms l es off quiet
 
-    -- no mixed map answers: each answer is the old map's, dark, or the new map's, to its own access
-    pub no-mixed : (es : List (Event A)) → Forall₂ (From (tell s) dark (tell (after put s (switch f ms l)))) (accesses es) (play put tell s (switch f ms l) es)
-    no-mixed es = rw (play-cut es) (cut-from (tell s) dark (tell (after put s (switch f ms l))) (length ms) es)
-
-    -- each access is told by the number of write events before it
-    pub play-told : (es : List (Event A)) → play put tell s (switch f ms l) es ≡ counted (told (tell s) dark (tell (after put s (switch f ms l))) (length ms)) 0 es
-    play-told es = play-cut es ∙ cut-told (tell s) dark (tell (after put s (switch f ms l))) (length ms) es
+    -- by counting: the number of write events before an access says which map answers it
+    pub play-counted : (es : List (Event A)) → play put tell s (switch f ms l) es ≡ counted (in-force (tell s) dark (tell (after put s (switch f ms l))) (length ms)) 0 es
+    play-counted es = play-cut es ∙ cut-counted (tell s) dark (tell (after put s (switch f ms l))) (length ms) es
 
     -- the answer to a, with es before it and gs after it (r stands for no answer)
-    pub told-at : (es gs : List (Event A)) (a : A) (r : R) → getD (play put tell s (switch f ms l) (es ++ ask a ∷ gs)) (length (accesses es)) r ≡ told (tell s) dark (tell (after put s (switch f ms l))) (length ms) (writes es) a
-    told-at es gs a r = rw (play-told (es ++ ask a ∷ gs)) (counted-at (told (tell s) dark (tell (after put s (switch f ms l))) (length ms)) 0 (writes es) es gs a r (omega arith))
+    pub answer-at : (es gs : List (Event A)) (a : A) (r : R) → getD (play put tell s (switch f ms l) (es ++ ask a ∷ gs)) (length (accesses es)) r ≡ in-force (tell s) dark (tell (after put s (switch f ms l))) (length ms) (writes es) a
+    answer-at es gs a r =
+        rw (play-counted (es ++ ask a ∷ gs)) (counted-at (in-force (tell s) dark (tell (after put s (switch f ms l))) (length ms)) 0 (writes es) es gs a r (omega arith))
+
+    -- no mixed map answers: at every number of write events one of the three maps, whole, answers all that is asked
+    pub no-mixed : (at : ℕ → A → R) × ((k : ℕ) → OneOf (tell s) dark (tell (after put s (switch f ms l))) (at k)) × ((es : List (Event A)) → play put tell s (switch f ms l) es ≡ counted at 0 es)
+    no-mixed = (
+      in-force (tell s) dark (tell (after put s (switch f ms l))) (length ms),
+      in-force-one (tell s) dark (tell (after put s (switch f ms l))) (length ms),
+      play-counted,
+    )

@@ -1,14 +1,15 @@
 -- A device of two registers and a switch, by computation: a number is permitted where a register holds it. The law holds of it, with the answers
 -- listed; and without the two writes that turn it off and on, a map answers that is neither the old one nor the new. Assumes nothing.
-use mathlib.Core.Path.{_≡_, refl}
+use mathlib.Core.Path.{_≡_, refl, ap}
 use mathlib.Core.Bool.{Bool, true, false, _||_}
 use mathlib.Core.List.{List, [], _∷_}
 use Prim.Native.Nat.{ℕ}
+use native.Mathlib.Omega.{arith}
 use lib.Dec.{eqb}
 use Rattle.laws.specs.Pick.{pick}
 use Rattle.order.specs.Play.{Event, write, ask, play, counted}
 use Rattle.order.specs.Off.{Dark, Quiet}
-use Rattle.order.specs.Cut.{switch, cut, told}
+use Rattle.order.specs.Cut.{switch, cut, in-force, OneOf, the-old, the-dark, the-new}
 use Rattle.order.specs.Machine.{run, Machine, step}
 use Rattle.order.proofs.SwitchLaws.{play-cut}
 
@@ -61,18 +62,17 @@ played = refl
 was-cut : cut (tell (box 1 2)) (λ a. unchecked) (tell (box 3 4)) 2 events ≡ answers
 was-cut = refl
 
-was-told : counted (told (tell (box 1 2)) (λ a. unchecked) (tell (box 3 4)) 2) 0 events ≡ answers
-was-told = refl
+was-counted : counted (in-force (tell (box 1 2)) (λ a. unchecked) (tell (box 3 4)) 2) 0 events ≡ answers
+was-counted = refl
 
 was-run : run (step put (turn false) (stores 3 4)) (λ (m : Machine Box). tell (m .state)) (record { state = box 1 2; place = 0 }) events ≡ answers
 was-run = refl
 
--- ---- a mixed map: 2 and 3 at once
+-- ---- without turning off, 2 and 3 at once: a mixed map, none of the three
 mixed : play put tell (box 1 2) (to-low 3 ∷ to-high 4 ∷ []) (write ∷ ask 2 ∷ ask 3 ∷ []) ≡ permitted ∷ permitted ∷ []
 mixed = refl
 
-not-old : tell (box 1 2) 3 ≡ denied
-not-old = refl
-
-not-new : tell (box 3 4) 2 ≡ denied
-not-new = refl
+none-of-three : OneOf (tell (box 1 2)) (λ a. unchecked) (tell (box 3 4)) (tell (box 3 2)) → ⊥
+none-of-three (the-old e) = let z : _≡_ {A = ℕ} 0 1 = cc (ap (λ (m : ℕ → Answer). m 3) e) in omega arith
+none-of-three (the-dark e) = let z : _≡_ {A = ℕ} 0 1 = cc (ap (λ (m : ℕ → Answer). m 3) e) in omega arith
+none-of-three (the-new e) = let z : _≡_ {A = ℕ} 0 1 = cc (ap (λ (m : ℕ → Answer). m 2) e) in omega arith

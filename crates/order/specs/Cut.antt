@@ -4,8 +4,8 @@
 --   cut old dark new n es   == old before the first write; then under way, with n writes between the first and the last
 --   under-way dark new n es == dark, until n writes and then the last are made
 --   ended new es            == new, whatever write events still come
---   told old dark new n k a == the same by counting: what a is told where k write events stand before it. None: old. 1 to n + 1: dark. Else new
---   From old dark new a r   == r is what one of the three maps answers to a
+--   in-force old dark new n k == the same by counting: the map that answers where k write events stand before. None: old. 1 to n + 1: dark. Else new
+--   OneOf old dark new m    == m is one of the three maps, the whole of it
 use mathlib.Core.Path.{_≡_}
 use mathlib.Core.List.{List, [], _∷_, _++_, map}
 use Prim.Native.Nat.{ℕ, zero, suc, _+_}
@@ -32,10 +32,10 @@ module _ {A R : Type 0} (old dark new : A → R) where
   cut n (ask a ∷ es) = old a ∷ cut n es
   cut n (write ∷ es) = under-way dark new n es
 
-  abbrev pub told : ℕ → ℕ → A → R
-  told n k a = pick (eqb k 0) (old a) (pick (ltb k (n + 2)) (dark a) (new a))
+  abbrev pub in-force : ℕ → ℕ → A → R
+  in-force n k = pick (eqb k 0) old (pick (ltb k (n + 2)) dark new)
 
-  pub data From (a : A) (r : R) : Type 0 where
-    of-old : r ≡ old a → From a r
-    of-dark : r ≡ dark a → From a r
-    of-new : r ≡ new a → From a r
+  pub data OneOf (m : A → R) : Type 0 where
+    the-old : m ≡ old → OneOf m
+    the-dark : m ≡ dark → OneOf m
+    the-new : m ≡ new → OneOf m
