@@ -1,5 +1,5 @@
 -- A device of two registers and a switch, by computation: a number is permitted where a register holds it. The law holds of it, with the answers
--- listed; and without the two writes that turn it off and on, a map answers that is neither the old one nor the new. Assumes nothing.
+-- listed; and without the writes that turn it off and on, a mixed map answers, which is none of the three. Assumes nothing.
 use mathlib.Core.Path.{_≡_, refl, ap}
 use mathlib.Core.Bool.{Bool, true, false, _||_}
 use mathlib.Core.List.{List, [], _∷_}
@@ -8,7 +8,6 @@ use native.Mathlib.Omega.{arith}
 use lib.Dec.{eqb}
 use Rattle.laws.specs.Pick.{pick}
 use Rattle.order.specs.Play.{Event, write, ask, play, counted}
-use Rattle.order.specs.Off.{Dark, Quiet}
 use Rattle.order.specs.Cut.{switch, cut, in-force, OneOf, the-old, the-dark, the-new}
 use Rattle.order.specs.Machine.{run, Machine, step}
 use Rattle.order.proofs.SwitchLaws.{play-cut}

@@ -1,11 +1,11 @@
 -- A switch from one map to another, and what it has to answer: three maps, each falling into the next at a write. A map is an answer to each
 -- access.
---   switch f ms l           == the writes of a switch: f first, ms between, l last
---   cut old dark new n es   == old before the first write; then under way, with n writes between the first and the last
---   under-way dark new n es == dark, until n writes and then the last are made
---   ended new es            == new, whatever write events still come
---   in-force old dark new n k == the same by counting: the map that answers where k write events stand before. None: old. 1 to n + 1: dark. Else new
---   OneOf old dark new m    == m is one of the three maps, the whole of it
+--   switch f ms l             == the writes of a switch: f first, ms between, l last
+--   cut old dark new n es     == old before the first write; then under way, with n writes between the first and the last
+--   under-way dark new n es   == dark, until those n and then the last are made
+--   ended new es              == new, whatever write events still come
+--   in-force old dark new n k == the same by counting: the map that answers where k write events stand before. None: old; 1 to n + 1: dark; else new
+--   OneOf old dark new m      == m is one of the three maps, the whole of it
 use mathlib.Core.Path.{_≡_}
 use mathlib.Core.List.{List, [], _∷_, _++_, map}
 use Prim.Native.Nat.{ℕ, zero, suc, _+_}

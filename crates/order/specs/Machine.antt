@@ -1,8 +1,9 @@
 -- The same, step by step, as a program makes it: a machine that holds a state and a place in a fixed list of writes.
---   run step tell m es == the answers, in order, to the accesses of es, where each write event is one step, for any machine
---   step put d ws m    == makes exactly the write at m's place, and the place one more; past the last write nothing (d stands for no write)
+--   run step tell m es == the answers, in order, to the accesses of es, where a write event is one step, for any machine m
+--   Machine S          == a state, and the place of the next write
+--   step put d ws m    == makes exactly the write at m's place, and the place is one more; past the last of ws, m (d stands for no write)
 use mathlib.Core.List.{List, [], _∷_}
-use Prim.Native.Nat.{ℕ, suc, _+_}
+use Prim.Native.Nat.{ℕ, _+_}
 use lib.Dec.{ltb}
 use lib.ListN.{length, getD}
 use Rattle.laws.specs.Pick.{pick}

@@ -8,7 +8,7 @@
 --   writes es             == how many write events es has
 --   counted f k es        == each access a of es answered by f n a, where n is the number of write events before it, k of them before es
 use mathlib.Core.List.{List, [], _∷_}
-use Prim.Native.Nat.{ℕ, zero, suc}
+use Prim.Native.Nat.{ℕ, suc}
 
 pub data Event (A : Type 0) : Type 0 where
   write : Event A
