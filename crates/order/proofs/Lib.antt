@@ -1,0 +1,5 @@
+pub mod PlayLaws
+pub mod CutLaws
+pub mod SwitchLaws
+pub mod MachineLaws
+pub mod Worked

@@ -1,0 +1,4 @@
+pub mod Play
+pub mod Off
+pub mod Cut
+pub mod Machine
