@@ -1,0 +1,5 @@
+pub mod DigitsLaws
+pub mod ValueLaws
+pub mod PutLaws
+pub mod WordLaws
+pub mod RunLaws
