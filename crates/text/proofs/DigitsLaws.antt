@@ -7,12 +7,13 @@ use Prim.Native.Nat.{ℕ, zero, suc, _+_, _*_, _/_, _%_, _^_, _≤_, _<_}
 use native.Mathlib.Nat.{le-refl, pow-suc}
 use native.Mathlib.Decide.{decLt}
 use native.Mathlib.Omega.{arith}
-use borrow.Author.Tests.{lt-ltb, le-ltb, le-leb}
+use borrow.Author.Tests.{lt-ltb, le-ltb, le-leb, ne-eqb}
 use lib.Dec.{ltb}
 use lib.ListN.{length, getD, length-append, List·getD-append}
 use Rattle.laws.specs.Pick.{pick}
 use Rattle.laws.proofs.BoolLaws.{and-left, and-right}
 use Rattle.text.specs.Digits.{zeroByte, spelt, digits, isDigit}
+use Rattle.text.specs.Read.{any, leadingZero}
 
 -- ---- the two equations
 enough : (k j n : ℕ) → n ≤ k → n ≤ j → spelt k n ≡ spelt j n
@@ -65,6 +66,21 @@ some-digit = by-digits (λ (n : ℕ). 0 < length (digits n)) (λ n h. rw (digits
 
 pub first-digit : (n : ℕ) → 0 < n → zeroByte < getD (digits n) 0 0
 first-digit = by-digits (λ (n : ℕ). 0 < n → zeroByte < getD (digits n) 0 0) (λ n h p. rw (digits-one n h) (omega arith)) (λ n h rest p. rw (digits-more n h, List·getD-append (digits (n / 10)) _ 0 0 (some-digit (n / 10))) (rest (omega arith)))
+
+pub any-digits : (n : ℕ) → any (digits n) ≡ true
+any-digits n = by (digits n) (some-digit n)
+  where
+    by : (ds : List ℕ) → 0 < length ds → any ds ≡ true
+    by [] h = absurd (omega arith)
+    by (d ∷ ds) h = refl
+
+pub no-leading-zero : (n : ℕ) → leadingZero (digits n) ≡ false
+no-leading-zero zero = rw (digits-one 0 (omega arith))
+no-leading-zero (suc n) = by (digits (suc n)) (first-digit (suc n) (omega arith))
+  where
+    by : (ds : List ℕ) → zeroByte < getD ds 0 0 → leadingZero ds ≡ false
+    by [] h = refl
+    by (d ∷ ds) h = rw (ne-eqb d zeroByte (λ e. omega arith))
 
 -- ---- as few as it needs
 pub few-digits : (k n : ℕ) → n < 10 ^ suc k → length (digits n) ≤ suc k

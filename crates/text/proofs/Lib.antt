@@ -1,5 +1,10 @@
 pub mod DigitsLaws
+pub mod RunLaws
 pub mod ValueLaws
 pub mod PutLaws
+pub mod StandsLaws
 pub mod WordLaws
-pub mod RunLaws
+pub mod NumberLaws
+pub mod LineLaws
+pub mod NewlineLaws
+pub mod LogLaws

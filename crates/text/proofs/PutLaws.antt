@@ -48,3 +48,12 @@ module _ (out : List ℕ) (at : ℕ) (s : List ℕ) where
 pub take-both : (out : List ℕ) (at : ℕ) (s t : List ℕ) → at + length s + length t ≤ length out → take (at + length s + length t) (over (over out at s) (at + length s) t) ≡ take at out ++ (s ++ t)
 take-both out at s t h =
     take-over (over out at s) (at + length s) t (rw (length-over out at s (omega arith)) h) ∙ rw (take-over out at s (omega arith), append-assoc)
+
+-- where both fit, t put straight after s is s and t put at once
+pub put-two : (out : List ℕ) (at : ℕ) (s t : List ℕ) → at + length s + length t ≤ length out →
+    (put (after out at s) (at + length s) t ≡ put out at (s ++ t)) × (after (after out at s) (at + length s) t ≡ after out at (s ++ t))
+put-two out at s t h =
+    let one = put-fits out at s (omega arith) in
+    let two = put-fits (over out at s) (at + length s) t (rw (length-over out at s (omega arith)) h) in
+    let both = put-fits out at (s ++ t) (rw (length-append, ← add-assoc) h) in
+    (rw (← one .1, ← two .0, ← both .0, length-append, add-assoc), rw (← one .1, ← two .1, ← both .1) (over-over out at s (omega arith) t))

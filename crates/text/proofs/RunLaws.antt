@@ -15,6 +15,7 @@ use Rattle.laws.specs.Pick.{pick}
 use Rattle.laws.proofs.BoolLaws.{and-left, and-right}
 use Rattle.text.specs.Digits.{zeroByte, isDigit, run, horner}
 use Rattle.text.specs.Read.{any, leadingZero}
+use Rattle.text.proofs.DigitsLaws.{allDigits}
 
 pub run-at : (bytes : List ℕ) (i : ℕ) → run (drop i bytes) ≡ pick (isDigit (getD bytes i 0)) (getD bytes i 0 ∷ run (drop (suc i) bytes)) []
 unfolding run
@@ -63,3 +64,28 @@ digit-range b e = (
 pub horner-grows : (v : ℕ) (ds : List ℕ) → v ≤ horner v ds
 horner-grows v [] = le-refl v
 horner-grows v (d ∷ ds) = omega (arith, horner-grows (v * 10 + (d - zeroByte)) ds)
+
+-- ---- the run of a whole text
+pub run-all : (ds rest : List ℕ) → allDigits ds ≡ true → run (ds ++ rest) ≡ ds ++ run rest
+unfolding run
+run-all [] rest e = refl
+run-all (d ∷ ds) rest e = rw (and-left (isDigit d) (allDigits ds) e, run-all ds rest (and-right (isDigit d) (allDigits ds) e))
+
+pub all-run : (bs : List ℕ) → allDigits (run bs) ≡ true
+unfolding run
+all-run [] = refl
+all-run (b ∷ bs) = by (isDigit b) refl (all-run bs)
+  where
+    by : (t : Bool) → isDigit b ≡ t → allDigits (run bs) ≡ true → allDigits (pick t (b ∷ run bs) []) ≡ true
+    by true e rest = rw (e) rest
+    by false e rest = refl
+
+-- the bytes are the run and what follows it, which begins with no digit
+pub run-split : (bs : List ℕ) → (bs ≡ run bs ++ drop (length (run bs)) bs) × (isDigit (getD (drop (length (run bs)) bs) 0 0) ≡ false)
+unfolding run
+run-split [] = (refl, refl)
+run-split (b ∷ bs) = by (isDigit b) refl (run-split bs)
+  where
+    by : (t : Bool) → isDigit b ≡ t → (bs ≡ run bs ++ drop (length (run bs)) bs) × (isDigit (getD (drop (length (run bs)) bs) 0 0) ≡ false) → let r = pick t (b ∷ run bs) [] in ((b ∷ bs) ≡ r ++ drop (length r) (b ∷ bs)) × (isDigit (getD (drop (length r) (b ∷ bs)) 0 0) ≡ false)
+    by true e rest = (ap (λ (l : List ℕ). b ∷ l) (rest .0), rest .1)
+    by false e rest = (refl, e)

@@ -4,8 +4,10 @@
 --   begins bs word    == bs begins with word
 --   wordAt bytes at word == the place after word, where the bytes from at on begin with it
 --   newlineFrom bytes at == the place of the first newline from at on
+--   Stands bytes at s p == s stands at the place at, and p is the place after it
+use mathlib.Core.Path.{_≡_}
 use mathlib.Core.Bool.{Bool, true, false, _&&_}
-use mathlib.Core.List.{List, [], _∷_}
+use mathlib.Core.List.{List, [], _∷_, _++_}
 use Prim.Native.Nat.{ℕ, _+_}
 use lib.Dec.{leb, ltb, eqb}
 use lib.ListN.{length, getD, drop}
@@ -55,3 +57,7 @@ isNewline bytes i = eqb (getD bytes i 0) newline
 unfoldable pub newlineFrom : List ℕ → ℕ → Found
 newlineFrom bytes at =
     pick (some (isNewline bytes) at (length bytes)) (found.At (lowest (isNewline bytes) at (length bytes))) found.Nothing
+
+pub record Stands (bytes : List ℕ) (at : ℕ) (s : List ℕ) (p : ℕ) : Type 0 where
+  pub text : drop at bytes ≡ s ++ drop p bytes
+  pub next : p ≡ at + length s
