@@ -8,3 +8,5 @@ pub mod NumberLaws
 pub mod LineLaws
 pub mod NewlineLaws
 pub mod LogLaws
+pub mod Determined
+pub mod Worked

@@ -1,27 +1,26 @@
 -- A line is read at a place exactly if its text stands there: each field and the newline in turn, a field's number ending at the byte with which the
 -- next begins, which is no digit. Assumes nothing.
-use mathlib.Core.Path.{_≡_, refl, sym, _∙_, ap, subst}
+use mathlib.Core.Path.{_≡_, refl, ap, subst}
 use mathlib.Core.Logic.{_↔_}
-use mathlib.Core.Bool.{Bool, true, false}
-use mathlib.Core.List.{List, [], _∷_, _++_}
-use Prim.Native.Nat.{ℕ, zero, suc, _+_, _≤_, _<_}
+use mathlib.Core.Bool.{false}
+use mathlib.Core.List.{List, _++_}
+use Prim.Native.Nat.{ℕ, _+_, _≤_, _<_}
 use native.Mathlib.Omega.{arith}
-use lib.ListN.{length, getD, drop}
+use lib.ListN.{length, getD}
 use Rattle.text.specs.declared.Found.{Found}
 use Rattle.text.specs.declared.Found.the-variants as found
 use Rattle.text.specs.declared.Number.{Number}
 use Rattle.text.specs.declared.Number.the-variants as number
 use Rattle.text.specs.declared.Line.{Line}
-use Rattle.text.specs.declared.LineRead.{LineRead}
 use Rattle.text.specs.declared.LineRead.the-variants as read
 use Rattle.text.specs.Digits.{largest, digits, isDigit}
 use Rattle.text.specs.Put.{over, after}
-use Rattle.text.specs.Read.{numberAt, wordAt, Stands}
+use Rattle.text.specs.Read.{wordAt, Stands}
 use Rattle.text.specs.Line.{nKey, rnrKey, rbarKey, rasrKey, endKey, field, lineText, afterWord, afterNumber, fieldAt, lineAt}
 use Rattle.text.proofs.PutLaws.{put-fits}
 use Rattle.text.proofs.StandsLaws.{stands-join, stands-apart, stands-first, stands-within, stands-between, stands-put}
 use Rattle.text.proofs.WordLaws.{word-exactly}
-use Rattle.text.proofs.NumberLaws.{NumberStands, number-exactly}
+use Rattle.text.proofs.NumberLaws.{number-exactly}
 
 -- the four numbers are such as can be read
 pub record Small (l : Line) : Type 0 where

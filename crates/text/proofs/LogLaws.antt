@@ -1,13 +1,12 @@
 -- A log of one line more is the log and then that line, counted by the lines before it: by going down the log. Assumes nothing.
-use mathlib.Core.Path.{_≡_, refl, sym, _∙_, ap}
+use mathlib.Core.Path.{_≡_, sym, _∙_, ap}
 use mathlib.Core.List.{List, [], _∷_, _++_, append-assoc, append-nil}
-use Prim.Native.Nat.{ℕ, zero, suc, _+_, _≤_}
+use Prim.Native.Nat.{ℕ, suc, _+_, _≤_}
 use native.Mathlib.Nat.{add-zero, zero-add, add-suc, suc-add}
 use native.Mathlib.Omega.{arith}
 use lib.ListN.{length, length-append}
 use Rattle.text.specs.declared.Line.{Line}
-use Rattle.text.specs.Digits.{digits}
-use Rattle.text.specs.Line.{field, lineText, Triple, numbered, lines, logText}
+use Rattle.text.specs.Line.{lineText, Triple, numbered, lines, logText}
 use Rattle.text.proofs.DigitsLaws.{few-digits}
 use Rattle.text.proofs.LineLaws.{Small}
 
@@ -25,4 +24,4 @@ pub line-length : (l : Line) → Small l → length (lineText l) ≤ 60
 unfolding lineText
 line-length l h =
     simp length-append
-    (omega (arith, few-digits 9 (l .n) (omega (arith, h .n)), few-digits 9 (l .rnr) (omega (arith, h .rnr)), few-digits 9 (l .rbar) (omega (arith, h .rbar)), few-digits 9 (l .rasr) (omega (arith, h .rasr))))
+    (omega (arith, few-digits 9 (l .n) (h .n) (omega (arith, h .n)), few-digits 9 (l .rnr) (h .rnr) (omega (arith, h .rnr)), few-digits 9 (l .rbar) (h .rbar) (omega (arith, h .rbar)), few-digits 9 (l .rasr) (h .rasr) (omega (arith, h .rasr))))

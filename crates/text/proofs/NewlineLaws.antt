@@ -12,7 +12,6 @@ use lib.ListN.{length, getD}
 use Rattle.laws.specs.Pick.{pick}
 use Rattle.laws.specs.Search.{lowest}
 use Rattle.laws.proofs.SearchLaws.{Least, lowest-least, lowest-end, least-one}
-use Rattle.text.specs.declared.Found.{Found}
 use Rattle.text.specs.declared.Found.the-variants.{At, Nothing}
 use Rattle.text.specs.Read.{newline, isNewline, newlineFrom}
 

@@ -5,14 +5,12 @@ use mathlib.Core.Logic.{_↔_}
 use mathlib.Core.Bool.{Bool, true, false}
 use mathlib.Core.List.{List, _++_, append-nil}
 use Prim.Native.Nat.{ℕ, _+_, _≤_}
-use native.Mathlib.Nat.{add-zero}
 use native.Mathlib.Omega.{arith}
 use borrow.Author.Tests.{le-ltb, ltb-false}
 use lib.Dec.{ltb}
 use lib.ListN.{length, getD, drop}
 use lib.Seq.{drop-drop}
 use Rattle.laws.specs.Pick.{pick}
-use Rattle.text.specs.declared.Number.{Number}
 use Rattle.text.specs.declared.Number.the-variants.{Value, Nothing}
 use Rattle.text.specs.Digits.{largest, digits, isDigit, run, value}
 use Rattle.text.specs.Put.{over, after}
@@ -31,7 +29,7 @@ pub record NumberStands (bytes : List ℕ) (at v p : ℕ) : Type 0 where
 
 -- ---- what is written is read
 of-digits : (v at : ℕ) → v ≤ largest → numberOf (digits v) at ≡ Value v (at + length (digits v))
-of-digits v at h = rw (any-digits v, no-leading-zero v, value-digits v, le-ltb largest v h)
+of-digits v at h = rw (any-digits v h, no-leading-zero v h, value-digits v h, le-ltb largest v h)
 
 number-reads : (bytes : List ℕ) (at v p : ℕ) → NumberStands bytes at v p → numberAt bytes at ≡ Value v p
 unfolding numberAt
@@ -39,7 +37,7 @@ number-reads bytes at v p w =
     ap (λ (ds : List ℕ). numberOf ds at) whole ∙ of-digits v at (w .small) ∙ ap (λ (q : ℕ). Value v q) (sym (w .here .next))
   where
     whole : run (drop at bytes) ≡ digits v
-    whole = rw (w .here .text, run-all (digits v) (drop p bytes) (all-digits v), run-none bytes p (w .ends)) (append-nil (digits v))
+    whole = rw (w .here .text, run-all (digits v) (drop p bytes) (all-digits v (w .small)), run-none bytes p (w .ends)) (append-nil (digits v))
 
 -- ---- only what is so written is read
 module _ (ds : List ℕ) (at v p : ℕ) where
@@ -62,7 +60,7 @@ unfolding numberAt
 number-read bytes at v p e =
     let bs = drop at bytes in
     let t = tests (run bs) at v p e in
-    let own : digits v ≡ run bs = ap digits (sym (t .3)) ∙ digits-value (run bs) (t .0) (all-run bs) (t .1) in
+    let own : digits v ≡ run bs = ap digits (sym (t .3)) ∙ digits-value (run bs) (t .2) (t .0) (all-run bs) (t .1) in
     let left : drop (length (run bs)) bs ≡ drop p bytes = drop-drop (length (run bs)) at bytes ∙ ap (λ (k : ℕ). drop k bytes) (t .4) in
     record {
       small = rw (sym (t .3)) (t .2);

@@ -1,5 +1,5 @@
 -- Decimal numbers as bytes, the most significant digit first.
---   digits n   == the bytes of n: no leading zero, "0" for 0
+--   digits n   == the bytes of n, up to the largest: no leading zero, "0" for 0
 --   isDigit b  == the byte b is one of 0 to 9
 --   run bs     == the longest run of digits that bs begins with
 --   horner v ds == the number that begins with the digits of v and goes on with ds
@@ -18,14 +18,14 @@ zeroByte = 48
 abbrev pub largest : ℕ
 largest = 4294967295
 
--- the digits of n in at most k steps
+-- the digits of n, of which there are at most k + 1
 unfoldable pub spelt : ℕ → ℕ → List ℕ
 spelt zero n = (zeroByte + n) ∷ []
 spelt (suc k) n = pick (ltb n 10) ((zeroByte + n) ∷ []) (spelt k (n / 10) ++ ((zeroByte + n % 10) ∷ []))
 
--- n steps are always enough
+-- ten digits are enough for the largest number
 unfoldable pub digits : ℕ → List ℕ
-digits n = spelt n n
+digits n = spelt 9 n
 
 abbrev pub isDigit : ℕ → Bool
 isDigit b = leb zeroByte b && leb b (zeroByte + 9)

@@ -12,21 +12,22 @@ use Rattle.text.specs.declared.Number.the-variants as number
 use Rattle.text.specs.declared.Line.{Line}
 use Rattle.text.specs.declared.LineRead.{LineRead}
 use Rattle.text.specs.declared.LineRead.the-variants as read
+use Rattle.text.specs.Ascii.{ascii}
 use Rattle.text.specs.Digits.{digits}
 use Rattle.text.specs.Read.{newline, numberAt, wordAt}
 
--- ---- the words of a line: `n=`, ` rnr=`, ` rbar=`, ` rasr=` and the newline
+-- ---- the words of a line
 abbrev pub nKey : List ℕ
-nKey = 110 ∷ 61 ∷ []
+nKey = ascii "n="
 
 abbrev pub rnrKey : List ℕ
-rnrKey = 32 ∷ 114 ∷ 110 ∷ 114 ∷ 61 ∷ []
+rnrKey = ascii " rnr="
 
 abbrev pub rbarKey : List ℕ
-rbarKey = 32 ∷ 114 ∷ 98 ∷ 97 ∷ 114 ∷ 61 ∷ []
+rbarKey = ascii " rbar="
 
 abbrev pub rasrKey : List ℕ
-rasrKey = 32 ∷ 114 ∷ 97 ∷ 115 ∷ 114 ∷ 61 ∷ []
+rasrKey = ascii " rasr="
 
 abbrev pub endKey : List ℕ
 endKey = newline ∷ []

@@ -1,13 +1,10 @@
 -- The two tests of `leading-zero`; past the end `getD` gives 0, which is no zero's byte. Assumes nothing.
-use mathlib.Core.Path.{_∙_}
 use borrow.Author.Needs.{needs}
 use borrow.Author.Tests.{eq-eqb, ne-eqb}
 use lib.ListN.{List·getD-eq-default}
 use Rattle.text.proofs.RunLaws.{leading-zero}
 use Rattle.text.proofs.leading_zero.Statement.{statement}
 use Rattle.text.proofs.leading_zero.Tie as tie
-use Rattle.text.proofs.leading_zero.Reads as reads
-use Rattle.text.proofs.leading_zero.Lts as lts
 
 returns : tie.Need-returns
 returns c = rw (leading-zero, List·getD-eq-default (c .before .before .args .bytes .now) 0 (c .if1 .taken))

@@ -6,8 +6,6 @@ use Rattle.text.specs.declared.Put.the-variants.{At}
 use Rattle.text.proofs.PutLaws.{put-fits, put-full}
 use Rattle.text.proofs.put_bytes.Statement.{statement}
 use Rattle.text.proofs.put_bytes.Tie as tie
-use Rattle.text.proofs.put_bytes.Reads as reads
-use Rattle.text.proofs.put_bytes.Lts as lts
 
 returns-3 : tie.Need-returns-3
 returns-3 c =

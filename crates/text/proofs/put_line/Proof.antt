@@ -8,8 +8,6 @@ use Rattle.text.specs.Line.{endKey, lineText}
 use Rattle.text.proofs.PutLaws.{take-over}
 use Rattle.text.proofs.put_line.Statement.{statement}
 use Rattle.text.proofs.put_line.Tie as tie
-use Rattle.text.proofs.put_line.Reads as reads
-use Rattle.text.proofs.put_line.Lts as lts
 
 -- the pieces up to the newline are the line
 whole : (c : tie.After-copy) →

@@ -4,8 +4,6 @@ use borrow.Author.Needs.{needs}
 use Rattle.text.proofs.PutLaws.{to-the-end}
 use Rattle.text.proofs.put_number.Statement.{statement}
 use Rattle.text.proofs.put_number.Tie as tie
-use Rattle.text.proofs.put_number.Reads as reads
-use Rattle.text.proofs.put_number.Lts as lts
 
 returns : tie.Need-returns
 returns c =

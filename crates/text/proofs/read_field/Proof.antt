@@ -4,8 +4,6 @@ use borrow.Author.Needs.{needs}
 use Rattle.text.specs.Line.{fieldAt}
 use Rattle.text.proofs.read_field.Statement.{statement}
 use Rattle.text.proofs.read_field.Tie as tie
-use Rattle.text.proofs.read_field.Reads as reads
-use Rattle.text.proofs.read_field.Lts as lts
 
 returns : tie.Need-returns
 unfolding fieldAt

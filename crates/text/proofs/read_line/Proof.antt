@@ -4,8 +4,6 @@ use borrow.Author.Needs.{needs}
 use Rattle.text.specs.Line.{lineAt}
 use Rattle.text.proofs.read_line.Statement.{statement}
 use Rattle.text.proofs.read_line.Tie as tie
-use Rattle.text.proofs.read_line.Reads as reads
-use Rattle.text.proofs.read_line.Lts as lts
 
 returns : tie.Need-returns
 unfolding lineAt

@@ -1,5 +1,5 @@
 -- The whole comparison is what is left of it: the first j bytes are the word's. Assumes nothing.
-use mathlib.Core.Path.{_≡_, refl, sym, _∙_}
+use mathlib.Core.Path.{_≡_, _∙_}
 use Prim.Native.Nat.{_+_, _-_, _≤_}
 use native.Mathlib.Nat.{add-zero, add-assoc}
 use native.Mathlib.Omega.{arith}
@@ -10,8 +10,6 @@ use Rattle.text.specs.Read.{begins, wordAt}
 use Rattle.text.proofs.WordLaws.{begins-next, begins-other, begins-end, begins-short}
 use Rattle.text.proofs.read_word.Statement.{statement}
 use Rattle.text.proofs.read_word.Tie as tie
-use Rattle.text.proofs.read_word.Reads as reads
-use Rattle.text.proofs.read_word.Lts as lts
 
 abbrev Inv-loop : tie.InvT-loop
 Inv-loop bytes at word j₀ j = (j ≤ length word) × (begins (drop at bytes) word ≡ begins (drop (at + j) bytes) (drop j word))

@@ -13,9 +13,6 @@ use Rattle.text.specs.Digits.{zeroByte, largest, isDigit, run, horner, v
 use Rattle.text.proofs.RunLaws.{run-next, run-none, digit-within, digit-range, horner-grows}
 use Rattle.text.proofs.sized_number.Statement.{statement}
 use Rattle.text.proofs.sized_number.Tie as tie
-use Rattle.text.proofs.sized_number.Reads as reads
-use Rattle.text.proofs.sized_number.Lts as lts
-use Rattle.text.proofs.digit_at.Reads as digit-at-reads
 
 -- the run at `at`, its value and its end, by what is left of it at i
 abbrev Left : List ℕ → ℕ → ℕ → ℕ → Type 0
