@@ -72,10 +72,10 @@ line-reads bytes at l p h w =
     let w2 = stands-apart bytes at f1 f2 q2 (w3 .0) in
     let within = stands-within bytes q4 endKey p (omega arith) (w5 .1) in
     rw (
-      field-reads bytes at nKey (l .n) q1 (omega arith) (h .n) (w2 .0) (ap isDigit (stands-first bytes q1 32 _ q2 (w2 .1))),
-      field-reads bytes q1 rnrKey (l .rnr) q2 (omega arith) (h .rnr) (w2 .1) (ap isDigit (stands-first bytes q2 32 _ q3 (w3 .1))),
-      field-reads bytes q2 rbarKey (l .rbar) q3 (omega arith) (h .rbar) (w3 .1) (ap isDigit (stands-first bytes q3 32 _ q4 (w4 .1))),
-      field-reads bytes q3 rasrKey (l .rasr) q4 (omega arith) (h .rasr) (w4 .1) (ap isDigit (stands-first bytes q4 10 _ p (w5 .1))),
+      field-reads bytes at nKey (l .n) q1 (omega arith) (h .n) (w2 .0) (ap isDigit (stands-first bytes q1 _ _ q2 (w2 .1))),
+      field-reads bytes q1 rnrKey (l .rnr) q2 (omega arith) (h .rnr) (w2 .1) (ap isDigit (stands-first bytes q2 _ _ q3 (w3 .1))),
+      field-reads bytes q2 rbarKey (l .rbar) q3 (omega arith) (h .rbar) (w3 .1) (ap isDigit (stands-first bytes q3 _ _ q4 (w4 .1))),
+      field-reads bytes q3 rasrKey (l .rasr) q4 (omega arith) (h .rasr) (w4 .1) (ap isDigit (stands-first bytes q4 _ _ p (w5 .1))),
       word-exactly bytes q4 endKey p .1 (omega (arith, w5 .1 .next), w5 .1),
     )
 

@@ -18,14 +18,17 @@ zeroByte = 48
 abbrev pub largest : ℕ
 largest = 4294967295
 
+abbrev pub mostDigits : ℕ
+mostDigits = 10
+
 -- the digits of n, of which there are at most k + 1
 unfoldable pub spelt : ℕ → ℕ → List ℕ
 spelt zero n = (zeroByte + n) ∷ []
 spelt (suc k) n = pick (ltb n 10) ((zeroByte + n) ∷ []) (spelt k (n / 10) ++ ((zeroByte + n % 10) ∷ []))
 
--- ten digits are enough for the largest number
+-- the largest number has the most digits
 unfoldable pub digits : ℕ → List ℕ
-digits n = spelt 9 n
+digits n = spelt (mostDigits - 1) n
 
 abbrev pub isDigit : ℕ → Bool
 isDigit b = leb zeroByte b && leb b (zeroByte + 9)

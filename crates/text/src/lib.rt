@@ -4,7 +4,7 @@ ghost use mathlib.Core.Path.{_≡_};
 ghost use mathlib.Core.List.{_++_};
 ghost use Prim.Native.Nat.{_+_, _<_, _≤_};
 ghost use lib.ListN.{length, getD, take, drop};
-ghost use Rattle.text.specs.Digits.{digits, isDigit, run};
+ghost use Rattle.text.specs.Digits.{mostDigits, digits, isDigit, run};
 ghost use Rattle.text.specs.Put.{over, put, after};
 ghost use Rattle.text.specs.Read.{leadingZero, sized, numberAt, wordAt, newlineFrom};
 ghost use Rattle.text.specs.Line.{field, lineText, fieldAt, lineAt};
@@ -16,6 +16,11 @@ const NINE: u8 = b'9';
 const NEWLINE: u8 = b'\n';
 
 const LARGEST: u64 = 4294967295;
+
+const MOST_DIGITS: usize = 10;
+
+// The words of a line, and the most digits for each of its numbers.
+const LONGEST_LINE: usize = 60;
 
 // What comes of putting text into a buffer.
 pub enum Put {
@@ -68,7 +73,7 @@ pub fn put_bytes(out: &mut [u8], at: usize, word: &[u8]) -> Put
 pub fn put_number(out: &mut [u8], at: usize, n: u32) -> Put
     ensures { λ r. ⌜ (r ≡ put (now (out .entry)) at (digits n)) × (now (out .exit) ≡ after (now (out .entry)) at (digits n)) ⌝ }
 {
-    let mut text = [ZERO; 10];
+    let mut text = [ZERO; MOST_DIGITS];
     let from = spell(&mut text, n);
     put_bytes(out, at, &text[from..])
 }
@@ -77,7 +82,7 @@ pub fn put_number(out: &mut [u8], at: usize, n: u32) -> Put
 pub fn put_line(out: &mut [u8], at: usize, l: Line) -> Put
     ensures { λ r. ⌜ (r ≡ put (now (out .entry)) at (lineText l)) × (now (out .exit) ≡ after (now (out .entry)) at (lineText l)) ⌝ }
 {
-    let mut text = [0u8; 60];
+    let mut text = [0u8; LONGEST_LINE];
     let a = put_field(&mut text, 0, b"n=", l.n);
     let b = put_field(&mut text, a, b" rnr=", l.rnr);
     let c = put_field(&mut text, b, b" rbar=", l.rbar);
@@ -209,10 +214,10 @@ fn digit_at(bytes: &[u8], i: usize) -> bool
 
 // A key and its value after what stands before the place, where there is room for the longest; the place after them.
 fn put_field(out: &mut [u8], at: usize, key: &[u8], n: u32) -> usize
-    requires { ⌜ at + length (now key) + 10 ≤ length (now out) ⌝ }
-    ensures { λ r. ⌜ (r ≤ at + length (now (key .entry)) + 10) × (take r (now (out .exit)) ≡ take at (now (out .entry)) ++ field (now (key .entry)) n) ⌝ }
+    requires { ⌜ at + length (now key) + mostDigits ≤ length (now out) ⌝ }
+    ensures { λ r. ⌜ (r ≤ at + length (now (key .entry)) + mostDigits) × (take r (now (out .exit)) ≡ take at (now (out .entry)) ++ field (now (key .entry)) n) ⌝ }
 {
-    let mut text = [ZERO; 10];
+    let mut text = [ZERO; MOST_DIGITS];
     let from = spell(&mut text, n);
     let value = copy(out, at, key);
     copy(out, value, &text[from..])
@@ -233,11 +238,11 @@ fn copy(out: &mut [u8], at: usize, word: &[u8]) -> usize
 
 // The number's digits at the end of the text; the place where they begin.
 fn spell(text: &mut [u8], n: u32) -> usize
-    requires { ⌜ length (now text) ≡ 10 ⌝ }
-    ensures { λ r. ⌜ (r < 10) × (drop r (now (text .exit)) ≡ digits n) ⌝ }
+    requires { ⌜ length (now text) ≡ mostDigits ⌝ }
+    ensures { λ r. ⌜ (r < mostDigits) × (drop r (now (text .exit)) ≡ digits n) ⌝ }
 {
     let mut rest = n;
-    let mut i = 9;
+    let mut i = MOST_DIGITS - 1;
     while 10 <= rest {
         text[i] = ZERO + (rest % 10) as u8;
         rest /= 10;

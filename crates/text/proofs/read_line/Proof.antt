@@ -1,27 +1,49 @@
 -- The steps of the definition, one after the other: each place is reached where the fields before it were found. Assumes nothing.
-use mathlib.Core.Path.{sym, _∙_}
+use mathlib.Core.Path.{_≡_, sym, _∙_}
 use borrow.Author.Needs.{needs}
-use Rattle.text.specs.Line.{lineAt}
+use Rattle.text.specs.declared.Number.the-variants.{Value}
+use Rattle.text.specs.Line.{nKey, rnrKey, rbarKey, rasrKey, fieldAt, lineAt}
 use Rattle.text.proofs.read_line.Statement.{statement}
 use Rattle.text.proofs.read_line.Tie as tie
 
+-- ---- the field that was found before each place
+found-n : (c : tie.After-n) →
+    let s = c .before .before .before .before .before .args in
+    fieldAt (s .bytes .now) (s .at) nKey ≡ Value (c .n .given .0 .0) (c .n .given .0 .1 .0)
+found-n c = sym (c .before .before .read-field .ensures) ∙ c .n .given .1
+
+found-rnr : (c : tie.After-rnr) →
+    let s = c .before .before .before .before .before .before .before .before .before .before .args in
+    fieldAt (s .bytes .now) (c .before .before .before .before .before .n .given .0 .1 .0) rnrKey ≡ Value (c .rnr .given .0 .0) (c .rnr .given .0 .1 .0)
+found-rnr c = sym (c .before .before .read-field2 .ensures) ∙ c .rnr .given .1
+
+found-rbar : (c : tie.After-rbar) →
+    let s = c .before .before .before .before .before .before .before .before .before .before .before .before .before .before .before .args in
+    fieldAt (s .bytes .now) (c .before .before .before .before .before .rnr .given .0 .1 .0) rbarKey ≡ Value (c .rbar .given .0 .0) (c .rbar .given .0 .1 .0)
+found-rbar c = sym (c .before .before .read-field3 .ensures) ∙ c .rbar .given .1
+
+found-rasr : (c : tie.After-rasr) →
+    let s = c .before .before .before .before .before .before .before .before .before .before .before .before .before .before .before .before .before .before .before .before .args in
+    fieldAt (s .bytes .now) (c .before .before .before .before .before .rbar .given .0 .1 .0) rasrKey ≡ Value (c .rasr .given .0 .0) (c .rasr .given .0 .1 .0)
+found-rasr c = sym (c .before .before .read-field4 .ensures) ∙ c .rasr .given .1
+
+-- ---- the returns
 returns : tie.Need-returns
 unfolding lineAt
-returns c =
-    rw (sym (c .before .before .read-field .ensures) ∙ c .enum-told .given .1)
+returns c = rw (sym (c .before .before .read-field .ensures) ∙ c .enum-told .given .1)
 
 returns-2 : tie.Need-returns-2
 unfolding lineAt
 returns-2 c =
     let a = c .before .before .before .before .before in
-    rw (sym (a .before .before .read-field .ensures) ∙ a .n .given .1, sym (c .before .before .read-field2 .ensures) ∙ c .enum-told2 .given .1)
+    rw (found-n a, sym (c .before .before .read-field2 .ensures) ∙ c .enum-told2 .given .1)
 
 returns-3 : tie.Need-returns-3
 unfolding lineAt
 returns-3 c =
     let b = c .before .before .before .before .before in
     let a = b .before .before .before .before .before in
-    rw (sym (a .before .before .read-field .ensures) ∙ a .n .given .1, sym (b .before .before .read-field2 .ensures) ∙ b .rnr .given .1, sym (c .before .before .read-field3 .ensures) ∙ c .enum-told3 .given .1)
+    rw (found-n a, found-rnr b, sym (c .before .before .read-field3 .ensures) ∙ c .enum-told3 .given .1)
 
 returns-4 : tie.Need-returns-4
 unfolding lineAt
@@ -29,7 +51,7 @@ returns-4 c =
     let d = c .before .before .before .before .before in
     let b = d .before .before .before .before .before in
     let a = b .before .before .before .before .before in
-    rw (sym (a .before .before .read-field .ensures) ∙ a .n .given .1, sym (b .before .before .read-field2 .ensures) ∙ b .rnr .given .1, sym (d .before .before .read-field3 .ensures) ∙ d .rbar .given .1, sym (c .before .before .read-field4 .ensures) ∙ c .enum-told4 .given .1)
+    rw (found-n a, found-rnr b, found-rbar d, sym (c .before .before .read-field4 .ensures) ∙ c .enum-told4 .given .1)
 
 returns-5 : tie.Need-returns-5
 unfolding lineAt
@@ -38,7 +60,7 @@ returns-5 c =
     let d = e .before .before .before .before .before in
     let b = d .before .before .before .before .before in
     let a = b .before .before .before .before .before in
-    rw (sym (a .before .before .read-field .ensures) ∙ a .n .given .1, sym (b .before .before .read-field2 .ensures) ∙ b .rnr .given .1, sym (d .before .before .read-field3 .ensures) ∙ d .rbar .given .1, sym (e .before .before .read-field4 .ensures) ∙ e .rasr .given .1, sym (c .before .before .read-word .ensures) ∙ c .enum-told5 .given .1)
+    rw (found-n a, found-rnr b, found-rbar d, found-rasr e, sym (c .before .before .read-word .ensures) ∙ c .enum-told5 .given .1)
 
 returns-6 : tie.Need-returns-6
 unfolding lineAt
@@ -48,7 +70,7 @@ returns-6 c =
     let d = e .before .before .before .before .before in
     let b = d .before .before .before .before .before in
     let a = b .before .before .before .before .before in
-    rw (sym (a .before .before .read-field .ensures) ∙ a .n .given .1, sym (b .before .before .read-field2 .ensures) ∙ b .rnr .given .1, sym (d .before .before .read-field3 .ensures) ∙ d .rbar .given .1, sym (e .before .before .read-field4 .ensures) ∙ e .rasr .given .1, sym (f .before .before .read-word .ensures) ∙ f .next .given .1)
+    rw (found-n a, found-rnr b, found-rbar d, found-rasr e, sym (f .before .before .read-word .ensures) ∙ f .next .given .1)
 
 pub read-line-spec : {M : Type 1} → statement M
 read-line-spec =
