@@ -16,6 +16,7 @@ use Rattle.text.proofs.put_number.Reads as put-number
 use Rattle.text.proofs.put_line.Reads as put-line
 use Rattle.text.proofs.read_number.Reads as read-number
 use Rattle.text.proofs.read_word.Reads as read-word
+use Rattle.text.proofs.read_field.Reads as read-field
 use Rattle.text.proofs.line_end.Reads as line-end
 use Rattle.text.proofs.read_line.Reads as read-line
 
@@ -33,6 +34,9 @@ read-number-once κs a r s e f p q = p ∙ sym q
 
 read-word-once : (κs : Lfts 2) (a : _) (r s : Found) (e f : _) → read-word.Post κs a r e → read-word.Post κs a s f → r ≡ s
 read-word-once κs a r s e f p q = p ∙ sym q
+
+read-field-once : (κs : Lfts 2) (a : _) (r s : Number) (e f : _) → read-field.Post κs a r e → read-field.Post κs a s f → r ≡ s
+read-field-once κs a r s e f p q = p ∙ sym q
 
 line-end-once : (κs : Lfts 1) (a : _) (r s : Found) (e f : _) → line-end.Post κs a r e → line-end.Post κs a s f → r ≡ s
 line-end-once κs a r s e f p q = p ∙ sym q

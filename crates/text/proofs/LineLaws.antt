@@ -39,15 +39,15 @@ module _ {X R : Type 0} {none x : X} (apart : none ≡ x → ⊥) where
   past-number number.Nothing then e = absurd (apart e)
   past-number (number.Value v p) then e = then v p refl e
 
--- ---- one field
-field-read : (bytes : List ℕ) (at : ℕ) (key : List ℕ) (v p : ℕ) → fieldAt bytes at key ≡ number.Value v p → (v ≤ largest) × Stands bytes at (field key v) p
+-- ---- one field: it is read only where it stands, and where it stands and no digit after it
+pub field-read : (bytes : List ℕ) (at : ℕ) (key : List ℕ) (v p : ℕ) → fieldAt bytes at key ≡ number.Value v p → (v ≤ largest) × Stands bytes at (field key v) p
 unfolding fieldAt
 field-read bytes at key v p =
     past-word (λ z. let y : _≡_ {A = ℕ} 0 1 = cc in omega arith) (wordAt bytes at key)
     (λ q e d. let w = number-exactly bytes q v p .0 d in
     (w .small, stands-join bytes at key (digits v) p (word-exactly bytes at key q .0 e .1) (w .here)))
 
-field-reads : (bytes : List ℕ) (at : ℕ) (key : List ℕ) (v p : ℕ) → 0 < length key → v ≤ largest → Stands bytes at (field key v) p → isDigit (getD bytes p 0) ≡ false → fieldAt bytes at key ≡ number.Value v p
+pub field-reads : (bytes : List ℕ) (at : ℕ) (key : List ℕ) (v p : ℕ) → 0 < length key → v ≤ largest → Stands bytes at (field key v) p → isDigit (getD bytes p 0) ≡ false → fieldAt bytes at key ≡ number.Value v p
 unfolding fieldAt
 field-reads bytes at key v p k h w e =
     let s = stands-apart bytes at key (digits v) p w in

@@ -124,6 +124,16 @@ pub fn read_word(bytes: &[u8], at: usize, word: &[u8]) -> Found
     Found::At(at + j)
 }
 
+// The number behind a given key, where the key stands at a place.
+pub fn read_field(bytes: &[u8], at: usize, key: &[u8]) -> Number
+    ensures { λ r. ⌜ r ≡ fieldAt (now (bytes .entry)) at (now (key .entry)) ⌝ }
+{
+    let Found::At(p) = read_word(bytes, at, key) else {
+        return Number::Nothing;
+    };
+    read_number(bytes, p)
+}
+
 // The place of the first newline from a place on.
 pub fn line_end(bytes: &[u8], from: usize) -> Found
     ensures { λ r. ⌜ r ≡ newlineFrom (now (bytes .entry)) from ⌝ }
@@ -158,16 +168,6 @@ pub fn read_line(bytes: &[u8], at: usize) -> LineRead
         return LineRead::Nothing;
     };
     LineRead::Text(Line { n, rnr, rbar, rasr }, next)
-}
-
-// The number behind a given key.
-fn read_field(bytes: &[u8], at: usize, key: &[u8]) -> Number
-    ensures { λ r. ⌜ r ≡ fieldAt (now (bytes .entry)) at (now (key .entry)) ⌝ }
-{
-    let Found::At(p) = read_word(bytes, at, key) else {
-        return Number::Nothing;
-    };
-    read_number(bytes, p)
 }
 
 // The number that the run of digits at a place says, if it is not too large.
