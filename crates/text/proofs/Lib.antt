@@ -1,0 +1,12 @@
+pub mod DigitsLaws
+pub mod RunLaws
+pub mod ValueLaws
+pub mod PutLaws
+pub mod StandsLaws
+pub mod WordLaws
+pub mod NumberLaws
+pub mod LineLaws
+pub mod NewlineLaws
+pub mod LogLaws
+pub mod Determined
+pub mod Worked

@@ -1,0 +1,11 @@
+-- The worked cases hold: computed. Assumes nothing.
+use mathlib.Core.Path.{_≡_, refl}
+use mathlib.Core.Bool.{true}
+use Rattle.text.specs.Digits.{spelt, digits, run}
+use Rattle.text.specs.Read.{begins, numberAt}
+use Rattle.text.specs.Line.{lineText, lines, logText}
+use Rattle.text.specs.Worked.{same, holds, cases}
+
+worked : holds (λ c. same (c .got) (c .due)) cases ≡ true
+unfolding spelt digits run begins numberAt lineText lines logText
+worked = refl

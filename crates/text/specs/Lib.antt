@@ -1,0 +1,6 @@
+pub mod Ascii
+pub mod Digits
+pub mod Put
+pub mod Read
+pub mod Line
+pub mod Worked

@@ -1,0 +1,56 @@
+-- Worked cases as data: what a definition gives, and what is due.
+--   log01      == the first three writes of document 01's log
+--   cases      == its text; the edges of a number, written and read
+--   answered r == the number and the place after it, nothing where there is none
+--   same xs ys == the two texts are alike
+--   holds f cs == each of the cases passes the test f
+use mathlib.Core.Bool.{Bool, true, _&&_}
+use mathlib.Core.List.{List, [], _∷_}
+use Prim.Native.Nat.{ℕ}
+use lib.Dec.{eqb}
+use lib.ListN.{length}
+use Rattle.text.specs.declared.Number.{Number}
+use Rattle.text.specs.declared.Number.the-variants.{Value, Nothing}
+use Rattle.text.specs.Ascii.{ascii}
+use Rattle.text.specs.Digits.{digits}
+use Rattle.text.specs.Read.{begins, numberAt}
+use Rattle.text.specs.Line.{Triple, logText}
+
+pub record Case : Type 0 where
+  pub got : List ℕ
+  pub due : List ℕ
+
+abbrev pub answered : Number → List ℕ
+answered Nothing = []
+answered (Value v p) = v ∷ p ∷ []
+
+abbrev pub same : List ℕ → List ℕ → Bool
+same xs ys = eqb (length xs) (length ys) && begins xs ys
+
+abbrev pub holds : {X : Type 0} → (X → Bool) → List X → Bool
+holds f [] = true
+holds f (c ∷ cs) = f c && holds f cs
+
+abbrev pub log01 : List Triple
+log01 =
+    record { rnr = 4294967295; rbar = 0; rasr = 0 }
+    ∷ record { rnr = 0; rbar = 536870912; rasr = 50331667 }
+    ∷ record { rnr = 1; rbar = 134217728; rasr = 100663327 }
+    ∷ []
+
+abbrev pub cases : List Case
+cases =
+    record {
+      got = logText log01;
+      due = ascii "n=0 rnr=4294967295 rbar=0 rasr=0\nn=1 rnr=0 rbar=536870912 rasr=50331667\nn=2 rnr=1 rbar=134217728 rasr=100663327\n";
+    }
+    ∷ record { got = digits 0; due = ascii "0" }
+    ∷ record { got = digits 10; due = ascii "10" }
+    ∷ record { got = digits 4294967295; due = ascii "4294967295" }
+    ∷ record { got = answered (numberAt (ascii "0") 0); due = 0 ∷ 1 ∷ [] }
+    ∷ record { got = answered (numberAt (ascii "n=10 rnr") 2); due = 10 ∷ 4 ∷ [] }
+    ∷ record { got = answered (numberAt (ascii "4294967295\n") 0); due = 4294967295 ∷ 10 ∷ [] }
+    ∷ record { got = answered (numberAt (ascii "4294967296") 0); due = [] }
+    ∷ record { got = answered (numberAt (ascii "01") 0); due = [] }
+    ∷ record { got = answered (numberAt (ascii "n=") 2); due = [] }
+    ∷ []
