@@ -78,10 +78,13 @@ base-multiple base size e = sym (mod-mod-of-dvd minRegionSize base (dvd-of-mod-e
   where
     s : Sound base size
     s = sound-facts base size e
+
     k : ℕ
     k = s .power .0
+
     five : 5 ≤ k
     five = pow-below 4 k (omega (arith, s .least, s .power .1))
+
     whole : size % minRegionSize ≡ 0
     whole = rw (s .power .1) (power-multiple 5 k five)
 

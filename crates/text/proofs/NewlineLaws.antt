@@ -10,8 +10,8 @@ use borrow.Author.Tests.{ltb-true, lt-ltb, eqb-true, eqb-false, eq-eqb, ne-eqb}
 use lib.Dec.{ltb}
 use lib.ListN.{length, getD}
 use Rattle.laws.specs.Pick.{pick}
-use Rattle.laws.specs.Search.{lowest}
-use Rattle.laws.proofs.SearchLaws.{Least, lowest-least, lowest-end, least-one}
+use Rattle.laws.specs.Search.{lowest, Least}
+use Rattle.laws.proofs.SearchLaws.{lowest-least, lowest-end, least-one}
 use Rattle.text.specs.declared.Found.the-variants.{At, Nothing}
 use Rattle.text.specs.Read.{newline, isNewline, newlineFrom}
 

@@ -4,7 +4,8 @@ use mathlib.Core.Bool.{true}
 use Rattle.text.specs.Digits.{spelt, digits, run}
 use Rattle.text.specs.Read.{begins, numberAt}
 use Rattle.text.specs.Line.{lineText, lines, logText}
-use Rattle.text.specs.Worked.{same, holds, cases}
+use Rattle.laws.specs.Cases.{holds}
+use Rattle.text.specs.Worked.{same, cases}
 
 worked : holds (λ c. same (c .got) (c .due)) cases ≡ true
 unfolding spelt digits run begins numberAt lineText lines logText

@@ -3,7 +3,6 @@
 --   cases      == its text; the edges of a number, written and read
 --   answered r == the number and the place after it, nothing where there is none
 --   same xs ys == the two texts are alike
---   holds f cs == each of the cases passes the test f
 use mathlib.Core.Bool.{Bool, true, _&&_}
 use mathlib.Core.List.{List, [], _∷_}
 use Prim.Native.Nat.{ℕ}
@@ -26,10 +25,6 @@ answered (Value v p) = v ∷ p ∷ []
 
 abbrev pub same : List ℕ → List ℕ → Bool
 same xs ys = eqb (length xs) (length ys) && begins xs ys
-
-abbrev pub holds : {X : Type 0} → (X → Bool) → List X → Bool
-holds f [] = true
-holds f (c ∷ cs) = f c && holds f cs
 
 abbrev pub log01 : List Triple
 log01 =

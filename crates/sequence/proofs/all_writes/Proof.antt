@@ -22,10 +22,12 @@ abbrev μ-loop : tie.MeasureT-loop
 loop-again : tie.Need-loop-again Inv-loop μ-loop
 loop-again c =
     let l = c .before .before in
-    let a = l .before .before .args in
-    (search needs, refl,
-     ap₂ (λ (ws : List Write) (w : Write). set ws (l .loop .i) w) (l .loop .inv .2) (c .write-at .ensures)
-      ∙ fill-next (writeAt slots (a .t) (a .p .0)) _ (triple 0 0 0) (l .loop .i) (c .before .loop-test .taken))
+    let a = l .before .before .args in (
+      search needs,
+      refl,
+      ap₂ (λ (ws : List Write) (w : Write). set ws (l .loop .i) w) (l .loop .inv .2) (c .write-at .ensures)
+          ∙ fill-next (writeAt slots (a .t) (a .p .0)) _ (triple 0 0 0) (l .loop .i) (c .before .loop-test .taken),
+    )
 
 returns : tie.Need-returns Inv-loop μ-loop
 unfolding writes
