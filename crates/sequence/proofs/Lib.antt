@@ -1,0 +1,3 @@
+pub mod WritesLaws
+pub mod SoundWrites
+pub mod Determined
