@@ -1,3 +1,4 @@
 pub mod WritesLaws
 pub mod SoundWrites
 pub mod Determined
+pub mod Worked
