@@ -1,63 +1,36 @@
+-- The whole search is what is left of it: every triple before i is sound. Assumes nothing.
+use mathlib.Core.Path.{_≡_, refl, sym, _∙_, ap}
+use mathlib.Core.Bool.{not}
+use Prim.Native.Nat.{_-_, _≤_}
+use borrow.Author.Needs.{needs}
+use borrow.Author.Tests.{eq-eqb, ne-eqb}
+use Rattle.laws.specs.Search.{lowest}
+use Rattle.laws.proofs.SearchLaws.{lowest-here, lowest-next, lowest-end}
+use Rattle.table.specs.Numbers.{slots}
+use Rattle.switch.specs.Applied.{isBad, firstBad}
 use Rattle.switch.proofs.first_bad.Statement.{statement}
 use Rattle.switch.proofs.first_bad.Tie as tie
-use Rattle.switch.proofs.first_bad.Reads as reads
-use Rattle.switch.proofs.first_bad.Lts as lts
-use Rattle.device.proofs.refused_write.Reads as refused-write-reads
 
 abbrev Inv-loop : tie.InvT-loop
-Inv-loop ws i₀ i = ?
+Inv-loop ws i₀ i = (i ≤ 10) × (firstBad slots ws ≡ lowest (isBad slots ws) i 10)
 
 abbrev μ-loop : tie.MeasureT-loop
-μ-loop ws i₀ i = ?
+μ-loop ws i₀ i = 10 - i
 
--- src/lib.rt:185:5
-loop-holds : tie.Need-loop-holds Inv-loop μ-loop
-loop-holds c = ?
-
--- src/lib.rt:186:34
-mul-refused-write : tie.Need-mul-refused-write Inv-loop μ-loop
-mul-refused-write c = ?
-
--- src/lib.rt:186:34
-array-copy-out-refused-write : tie.Need-array-copy-out-refused-write Inv-loop μ-loop
-array-copy-out-refused-write c = ?
-
--- src/lib.rt:186:12
-refused-write-requires : tie.Need-refused-write-requires Inv-loop μ-loop
-refused-write-requires c κs = ?
-
--- src/lib.rt:187:13
 returns : tie.Need-returns Inv-loop μ-loop
-returns c = ?
+returns c =
+    let t = c .before .before .before in
+    sym (t .before .loop .inv .1 ∙ lowest-here _ (t .loop-test .taken) (ap not (ne-eqb _ _ (rw (c .before .refused-write .ensures) at (c .if1 .taken)))))
 
--- src/lib.rt:189:9
-add-i : tie.Need-add-i Inv-loop μ-loop
-add-i c = ?
-
--- src/lib.rt:185:5
-loop-less : tie.Need-loop-less Inv-loop μ-loop
-loop-less c = ?
-
--- src/lib.rt:185:5
 loop-again : tie.Need-loop-again Inv-loop μ-loop
-loop-again c = ?
+loop-again c =
+    let t = c .before .before .before in
+    (search needs, t .before .loop .inv .1 ∙ lowest-next _ (t .loop-test .taken) (ap not (eq-eqb _ _ (rw (c .before .refused-write .ensures) at (c .if1 .left)))))
 
--- src/lib.rt:181:1
 returns-2 : tie.Need-returns-2 Inv-loop μ-loop
-returns-2 c = ?
+returns-2 c = sym (c .before .loop .inv .1 ∙ lowest-end _ (c .loop-test .left))
 
 pub first-bad-spec : {M : Type 1} → statement M
 first-bad-spec =
     tie.close
-    (tie.spec
-    Inv-loop
-    μ-loop
-    loop-holds
-    mul-refused-write
-    array-copy-out-refused-write
-    refused-write-requires
-    returns
-    add-i
-    loop-less
-    loop-again
-    returns-2)
+    (tie.spec Inv-loop μ-loop (λ c. (search needs, refl)) (λ c. search needs) (λ c. search needs) (λ c κs. search needs) returns (λ c. search needs) (λ c. search needs) loop-again returns-2)

@@ -1,61 +1,41 @@
+-- The position, and then the register write's own number, settle what a step does. Assumes nothing.
+use mathlib.Core.Path.{_≡_, sym, _∙_, ap}
+use Prim.Native.Nat.{ℕ}
 use borrow.Author.Needs.{needs}
+use Rattle.device.specs.declared.Mpu.{Mpu}
+use Rattle.device.specs.declared.Written.{Written}
+use Rattle.device.specs.RegisterWrite.{writeRegister}
+use Rattle.table.specs.Numbers.{slots}
+use Rattle.switch.specs.declared.Did.the-variants.{Wrote, Refused}
+use Rattle.switch.specs.Switch.{due, advanced}
+use Rattle.switch.proofs.StepLaws.{step-finished, step-refused, step-wrote, in-number}
 use Rattle.switch.proofs.step.Statement.{statement}
 use Rattle.switch.proofs.step.Tie as tie
-use Rattle.switch.proofs.step.Reads as reads
-use Rattle.switch.proofs.step.Lts as lts
-use Rattle.device.proofs.write_register.Reads as write-register-reads
 
--- src/lib.rt:76:14
-cast-at : tie.Need-cast-at
-cast-at c = search needs
+-- the register write's number and MPU are the definition's
+number : (c : tie.After-write-register) → let s = c .before .before .before .before .args .t1 in c .write-register .result .no ≡ writeRegister slots (s .mpu) (due s) .no
+number c = ap (λ (w : Written). w .no) (c .write-register .ensures)
 
--- src/lib.rt:78:9
 returns : tie.Need-returns
-returns c = ?
+returns c = in-number slots (c .before .args .t1) (sym (step-finished slots _ (c .if1 .taken)))
 
--- src/lib.rt:83:13
-mul-w : tie.Need-mul-w
-mul-w c = search needs
-
--- src/lib.rt:83:13
-element-copy-out-w : tie.Need-element-copy-out-w
-element-copy-out-w c = search needs
-
--- src/lib.rt:84:9
-write-register-requires : tie.Need-write-register-requires
-write-register-requires c κs = search needs
-
--- src/lib.rt:86:9
 returns-2 : tie.Need-returns-2
-returns-2 c = ?
+returns-2 c =
+    let d = c .before .before in
+    let e = d .before .before .before in
+    let s = e .before .args .t1 in
+    in-number slots s
+    ((λ i. record { did = Refused (number d i); switch = s }) ∙ sym (step-refused slots s (e .if1 .left) (rw (number d) at (c .if2 .taken))))
 
--- src/lib.rt:94:21
-add-next : tie.Need-add-next
-add-next c = search needs
-
--- src/lib.rt:95:5
-mul-w-2 : tie.Need-mul-w-2
-mul-w-2 c = search needs
-
--- src/lib.rt:95:5
-element-set-from-w : tie.Need-element-set-from-w
-element-set-from-w c = search needs
-
--- src/lib.rt:72:1
 returns-3 : tie.Need-returns-3
-returns-3 c = ?
+returns-3 c =
+    let d = c .before .before .before in
+    let e = d .before .before .before in
+    let s = e .before .args .t1 in
+    in-number slots s
+    ((λ i. record { did = Wrote; switch = advanced s (d .write-register .ensures i .mpu) }) ∙ sym (step-wrote slots s (e .if1 .left) (sym (number d) ∙ c .before .if2 .left)))
 
 pub step-spec : {M : Type 1} → statement M
 step-spec =
     tie.close
-    (tie.spec
-    cast-at
-    returns
-    mul-w
-    element-copy-out-w
-    write-register-requires
-    returns-2
-    add-next
-    mul-w-2
-    element-set-from-w
-    returns-3)
+    (tie.spec (λ c. search needs) returns (λ c. search needs) (λ c. search needs) (λ c κs. search needs) returns-2 (λ c. search needs) (λ c. search needs) (λ c. search needs) returns-3)

@@ -1,58 +1,40 @@
+-- What the writes that are left make of the MPU as it is now is what all of them make of the one received. Assumes nothing.
+use mathlib.Core.Path.{_≡_, refl, sym, _∙_, ap}
+use Prim.Native.Nat.{_+_, _-_, _≤_}
+use native.Mathlib.Omega.{arith}
+use borrow.Author.Needs.{needs}
+use lib.ListN.{length, drop}
+use Rattle.device.specs.declared.Written.{Written}
+use Rattle.table.specs.Numbers.{slots}
+use Rattle.switch.specs.Applied.{writeAll}
+use Rattle.switch.proofs.AppliedLaws.{write-next, write-end}
 use Rattle.switch.proofs.write_all.Statement.{statement}
 use Rattle.switch.proofs.write_all.Tie as tie
-use Rattle.switch.proofs.write_all.Reads as reads
-use Rattle.switch.proofs.write_all.Lts as lts
-use Rattle.device.proofs.write_register.Reads as write-register-reads
 
 abbrev Inv-loop : tie.InvT-loop
-Inv-loop ws now₀ i₀ now i = ?
+Inv-loop ws now₀ i₀ now i = (i ≤ 10) × (length ws ≡ 10) × (writeAll slots now₀ ws ≡ writeAll slots now (drop i ws))
 
 abbrev μ-loop : tie.MeasureT-loop
-μ-loop ws now₀ i₀ now i = ?
+μ-loop ws now₀ i₀ now i = 10 - i
 
--- src/lib.rt:199:5
-loop-holds : tie.Need-loop-holds Inv-loop μ-loop
-loop-holds c = ?
-
--- src/lib.rt:200:48
-mul-write-register : tie.Need-mul-write-register Inv-loop μ-loop
-mul-write-register c = ?
-
--- src/lib.rt:200:48
-array-copy-out-write-register : tie.Need-array-copy-out-write-register Inv-loop μ-loop
-array-copy-out-write-register c = ?
-
--- src/lib.rt:200:13
-write-register-requires : tie.Need-write-register-requires Inv-loop μ-loop
-write-register-requires c κs = ?
-
--- src/lib.rt:203:9
-add-i : tie.Need-add-i Inv-loop μ-loop
-add-i c = ?
-
--- src/lib.rt:199:5
-loop-less : tie.Need-loop-less Inv-loop μ-loop
-loop-less c = ?
-
--- src/lib.rt:199:5
 loop-again : tie.Need-loop-again Inv-loop μ-loop
-loop-again c = ?
+loop-again c =
+    let d = c .before in
+    let t = d .before .before in
+    let l = t .before in
+    let ws = l .before .args .t2 in (
+      search needs,
+      l .loop .inv .1,
+      l .loop .inv .2 ∙ write-next slots (l .loop .now) ws (l .loop .i) (omega (arith, l .loop .inv .1, t .loop-test .taken))
+          ∙ ap (λ (w : Written). writeAll slots (w .mpu) (drop (l .loop .i + 1) ws)) (sym (d .write-register .ensures)),
+    )
 
--- src/lib.rt:194:1
 returns : tie.Need-returns Inv-loop μ-loop
-returns c = ?
+returns c =
+    let l = c .before in
+    sym (l .loop .inv .2 ∙ write-end slots (l .loop .now) (l .before .args .t2) (l .loop .i) (omega (arith, l .loop .inv .1, c .loop-test .left)))
 
 pub write-all-spec : {M : Type 1} → statement M
 write-all-spec =
     tie.close
-    (tie.spec
-    Inv-loop
-    μ-loop
-    loop-holds
-    mul-write-register
-    array-copy-out-write-register
-    write-register-requires
-    add-i
-    loop-less
-    loop-again
-    returns)
+    (tie.spec Inv-loop μ-loop (λ c. (search needs, search needs, refl)) (λ c. search needs) (λ c. search needs) (λ c κs. search needs) (λ c. search needs) (λ c. search needs) loop-again returns)
