@@ -1,0 +1,4 @@
+pub mod MeetLaws
+pub mod LoadLaws
+pub mod AnswerLaws
+pub mod DemandThree
