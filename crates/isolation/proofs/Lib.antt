@@ -2,3 +2,5 @@ pub mod MeetLaws
 pub mod LoadLaws
 pub mod AnswerLaws
 pub mod DemandThree
+pub mod MapLaws
+pub mod Worked

@@ -94,6 +94,7 @@ module _ (n : ℕ) (few : n ≤ ctrl) where
       where
         stays : (i : ℕ) → i < n → (j : ℕ) → ¬ (j ≡ i) → slotAt (put n m (g i) .slots) j ≡ slotAt (m .slots) j
         stays i w j d = ap (λ (x : Mpu). slotAt (x .slots) j) (stores m i w a) ∙ slots-stay n m (g i) j (λ e. d (e ∙ named i))
+
         here : (i : ℕ) → i < n → (u : Mpu) → Filled (put n m (g i)) u (suc i) k → (j : ℕ) → j ≡ i → slotAt (u .slots) j ≡ pairOf (g j)
         here i w u rest j e =
             rest .before j (omega (arith, e))
@@ -131,11 +132,15 @@ module _ (n : ℕ) (few : n ≤ ctrl) where
       where
         first : Mpu
         first = put n m off
+
         first-is : first ≡ record { slots = m .slots; control = 0 }
         first-is = turned m off a (off-sound n few) refl
+
         last : Mpu
         last = after (put n) first (middle n t p)
+
         filled : Filled of-slot named sound first last 0 n
         filled = fills of-slot named sound first 0 n (omega arith) (ap (λ (x : Mpu). length (x .slots)) first-is ∙ l) (off-off m a .held)
+
         last-held : allowed (last .control) ≡ true
         last-held = ap allowed (filled .control) ∙ off-off m a .held

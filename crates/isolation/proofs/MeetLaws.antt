@@ -67,9 +67,10 @@ module _ (e : Entry) (x : e .enabled ≡ true) (ok : regionNo (e .base) (e .size
   matching a =
       let aligned : e .base % 2 ^ (sizeField pair + 1) ≡ 0 = rw block-size (sound-facts (e .base) (e .size) ok .multiple) in
       let inside = matches-aligned a pair aligned in
-      same-test (matches a pair) (coversByte a e)
-      (λ m. let w = inside .0 m .1 in byte-exactly a e .1 (record { on = x; from = w .from; below = omega (arith, w .below, block-size) }),
-       λ c. let b = byte-exactly a e .0 c in inside .1 (on, record { from = b .from; below = omega (arith, b .below, block-size) }))
+      same-test (matches a pair) (coversByte a e) (
+        λ m. let w = inside .0 m .1 in byte-exactly a e .1 (record { on = x; from = w .from; below = omega (arith, w .below, block-size) }),
+        λ c. let b = byte-exactly a e .0 c in inside .1 (on, record { from = b .from; below = omega (arith, b .below, block-size) }),
+      )
 
   row : (p : Bool) (k : Kind) → rowAnswer (registers.apField pair) p k ≡ answered (allows k e)
   unfolding rowAnswer
