@@ -1,0 +1,6 @@
+pub mod MeetLaws
+pub mod LoadLaws
+pub mod AnswerLaws
+pub mod DemandThree
+pub mod MapLaws
+pub mod Worked

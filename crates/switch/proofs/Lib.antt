@@ -1,0 +1,4 @@
+pub mod StartNo
+pub mod StepLaws
+pub mod AppliedLaws
+pub mod Determined

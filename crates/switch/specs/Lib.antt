@@ -1,0 +1,2 @@
+pub mod Switch
+pub mod Applied
