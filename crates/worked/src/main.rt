@@ -3,6 +3,7 @@ mod lists;
 mod print;
 mod regions;
 mod registers;
+mod switches;
 mod tables;
 
 fn main() {
@@ -13,4 +14,5 @@ fn main() {
     registers::sizes();
     registers::values();
     tables::tables();
+    switches::switches();
 }
