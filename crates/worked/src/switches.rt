@@ -116,7 +116,8 @@ fn stepped(control: u32, position: u32, rnr: u32, rbar: u32, rasr: u32) {
     print::key(b" rnr=", rnr);
     print::key(b" rbar=", rbar);
     print::key(b" rasr=", rasr);
-    match r.did {
+    let did = r.did;
+    match did {
         Did::Wrote => {
             print::text(b" wrote");
         }
@@ -178,11 +179,13 @@ fn by_hand() {
 
 fn applied(control: u32, ws: [Write; 10]) {
     let r = switch::apply_program(zeros(control), ws);
+    let m = r.mpu;
+    let third = m.slots[3];
     print::key(b"apply control=", control);
     print::key(b" no=", r.no);
-    print::key(b" -> control=", r.mpu.control);
-    print::key(b" slot3=", r.mpu.slots[3].rbar);
-    print::key(b"/", r.mpu.slots[3].rasr);
+    print::key(b" -> control=", m.control);
+    print::key(b" slot3=", third.rbar);
+    print::key(b"/", third.rasr);
     triple(b" logged=", r.log[9]);
     print::end();
 }
