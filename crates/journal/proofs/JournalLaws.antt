@@ -1,4 +1,4 @@
--- The text of a log's first writes and of the next; that a log has room where its longest does. Assumes nothing.
+-- The text of a log of one write more, alone and in a buffer; the answer where the longest log has room, and where not. By the laws of text. Assumes nothing.
 use mathlib.Core.Path.{_≡_, refl, sym, _∙_, ap}
 use mathlib.Core.List.{List, [], _∷_, _++_, map, append-nil}
 use Prim.Native.Nat.{ℕ, suc, _+_, _≤_, _<_}
@@ -6,7 +6,7 @@ use native.Mathlib.Nat.{add-zero, add-assoc}
 use native.Mathlib.Numerals.{add-one}
 use native.Mathlib.Omega.{arith}
 use borrow.Author.Tests.{le-leb, lt-leb}
-use lib.ListN.{length, getD, take, length-map, length-append, take-append-drop}
+use lib.ListN.{length, getD, take, drop, length-map, length-append, take-append-drop}
 use lib.Seq.{take-suc, length-take-le}
 use Rattle.device.specs.declared.Write.{Write}
 use Rattle.text.specs.declared.Put.{Put}
@@ -17,6 +17,14 @@ use Rattle.text.proofs.PutLaws.{over-over}
 use Rattle.text.proofs.LogLaws.{log-last}
 use Rattle.journal.specs.Journal.{longestLog, tripleOf, writeText, logOf, putLog, afterLog}
 
+-- ---- an answer known in two ways
+pub one-place : {r : Put} {p q : ℕ} → r ≡ At p → r ≡ At q → p ≡ q
+one-place d e = cc
+
+pub not-full : {r : Put} {q : ℕ} → r ≡ Full → r ≡ At q → ⊥
+not-full d e = let y : _≡_ {A = ℕ} 0 1 = cc in omega arith
+
+-- ---- the text
 map-append : {A B : Type 0} (f : A → B) (xs ys : List A) → map f (xs ++ ys) ≡ map f xs ++ map f ys
 map-append f [] ys = refl
 map-append f (x ∷ xs) ys = rw (map-append f xs ys)
@@ -53,9 +61,11 @@ module _ (out : List ℕ) (at : ℕ) (log : List Write) where
   unfolding putLog afterLog
   log-full h = (rw (lt-leb _ _ h), rw (lt-leb _ _ h))
 
--- ---- an answer known in two ways
-pub one-place : {r : Put} {p q : ℕ} → r ≡ At p → r ≡ At q → p ≡ q
-one-place d e = cc
-
-pub not-full : {r : Put} {q : ℕ} → r ≡ Full → r ≡ At q → ⊥
-not-full d e = let y : _≡_ {A = ℕ} 0 1 = cc in omega arith
+  -- a buffer keeps its length, so the place after the log is within it
+  pub log-within : {p : ℕ} → at + longestLog ≤ length out → putLog out at log ≡ At p → length (afterLog out at log) ≡ length out → p ≤ length out
+  log-within h e k =
+      let f = log-fits h in
+      let there = one-place e (sym (f .0)) in
+      let long : length (take at out) + length (logOf log) + length (drop (at + length (logOf log)) out) ≡ length out =
+      sym (rw (length-append, length-append)) ∙ ap length (f .1) ∙ k in
+      omega (arith, there, long, length-take-le at out (omega arith))

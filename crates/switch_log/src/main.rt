@@ -41,13 +41,6 @@ fn switch_to(t: Table) {
     let mut text = [0u8; journal::LONGEST_LOG];
     let log = s.switch.log;
     if let text::Put::At(n) = journal::put_log(&mut text, 0, log) {
-        print(&text, n);
-    }
-}
-
-// The journal's place is always within; to test it here is shorter than to prove it again.
-fn print(text: &[u8], n: usize) {
-    if n <= text.len() {
         io::write_all(STDOUT_FILENO, &text[..n]);
     }
 }
