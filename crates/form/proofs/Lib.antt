@@ -1,0 +1,4 @@
+pub mod Determined
+pub mod FormLaws
+pub mod GatherLaws
+pub mod Worked
