@@ -1,2 +1,3 @@
 pub mod Sequence
 pub mod Worked
+pub mod Starred
