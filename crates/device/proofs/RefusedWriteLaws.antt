@@ -12,29 +12,29 @@ use Rattle.laws.proofs.RefuseLaws.{given, accepted}
 use Rattle.device.specs.declared.Mpu.{Mpu}
 use Rattle.device.specs.declared.Write.{Write}
 use Rattle.device.specs.Registers.{ctrl, allowed}
-use Rattle.device.specs.RegisterWrite.{slotNamed, ctrlNamed, valid, triple, tripleNo, writeNo, writeRegister}
+use Rattle.device.specs.RegisterWrite.{slotNamed, ctrlNamed, validBit, tripleRefusals, tripleNo, writeNo, writeRegister}
 use Rattle.laws.proofs.TestLaws.{and-exactly, not-exactly, lt-exactly, ge-exactly, eq-exactly, ne-exactly}
 
 -- ---- by the triple alone
 module _ (n : ℕ) (w : Write) where
   -- 10: the register is neither a slot nor the control
   pub ten-exactly : (tripleNo n w ≡ 10) ↔ ((n ≤ w .rnr) × (¬ (w .rnr ≡ ctrl)))
-  unfolding tripleNo triple
+  unfolding tripleNo tripleRefusals
   ten-exactly =
-      Iff·trans (given (triple n w) refl refl 0 (lit< tt))
+      Iff·trans (given (tripleRefusals n w) refl refl 0 (lit< tt))
       (Iff·trans true-and
       (Iff·trans (and-exactly (not (slotNamed n w)) (not (ctrlNamed w)))
       (Iff·and (Iff·trans (not-exactly _) (ge-exactly _ _)) (Iff·trans (not-exactly _) (ne-exactly _ _)))))
 
   -- 11: a slot, with RBAR bit 4 set
   pub eleven-exactly : (tripleNo n w ≡ 11) ↔ ((w .rnr < n) × (w .rbar / 16 % 2 ≡ 1))
-  unfolding tripleNo triple
+  unfolding tripleNo tripleRefusals
   eleven-exactly =
-      Iff·trans (given (triple n w) refl refl 1 (lit< tt))
+      Iff·trans (given (tripleRefusals n w) refl refl 1 (lit< tt))
       (λ q. facts .0 (q .1), λ h. ((rw (lt-ltb _ _ (h .0)), tt), facts .1 h))
     where
-      facts : ((slotNamed n w && valid w) ≡ true) ↔ ((w .rnr < n) × (w .rbar / 16 % 2 ≡ 1))
-      facts = Iff·trans (and-exactly (slotNamed n w) (valid w)) (Iff·and (lt-exactly _ _) (eq-exactly _ _))
+      facts : ((slotNamed n w && validBit w) ≡ true) ↔ ((w .rnr < n) × (w .rbar / 16 % 2 ≡ 1))
+      facts = Iff·trans (and-exactly (slotNamed n w) (validBit w)) (Iff·and (lt-exactly _ _) (eq-exactly _ _))
 
   module _ (fewer : n ≤ ctrl) where
     -- the control is no slot
@@ -43,9 +43,9 @@ module _ (n : ℕ) (w : Write) where
 
     -- 12: the control, with a value that is not allowed
     pub twelve-exactly : (tripleNo n w ≡ 12) ↔ ((w .rnr ≡ ctrl) × (allowed (w .rasr) ≡ false))
-    unfolding tripleNo triple
+    unfolding tripleNo tripleRefusals
     twelve-exactly =
-        Iff·trans (given (triple n w) refl refl 2 (lit< tt))
+        Iff·trans (given (tripleRefusals n w) refl refl 2 (lit< tt))
         (λ q. facts .0 (q .1), λ h. ((rw (above (h .0), eq-eqb _ _ (h .0)), (rw (above (h .0)), tt)), facts .1 h))
       where
         facts : ((ctrlNamed w && not (allowed (w .rasr))) ≡ true) ↔ ((w .rnr ≡ ctrl) × (allowed (w .rasr) ≡ false))
@@ -53,15 +53,15 @@ module _ (n : ℕ) (w : Write) where
 
     -- 0: a slot with bit 4 clear, or the control with a value that is allowed
     pub zero-exactly : (tripleNo n w ≡ 0) ↔ (((w .rnr < n) × (¬ (w .rbar / 16 % 2 ≡ 1))) ⊎ ((w .rnr ≡ ctrl) × (allowed (w .rasr) ≡ true)))
-    unfolding tripleNo triple
-    zero-exactly = Iff·trans (accepted (triple n w) refl) (by (slotNamed n w) (ctrlNamed w) refl refl, quiet)
+    unfolding tripleNo tripleRefusals
+    zero-exactly = Iff·trans (accepted (tripleRefusals n w) refl) (by (slotNamed n w) (ctrlNamed w) refl refl, quiet)
       where
-        by : (s k : Bool) → slotNamed n w ≡ s → ctrlNamed w ≡ k → Quiet (triple n w) → ((w .rnr < n) × (¬ (w .rbar / 16 % 2 ≡ 1))) ⊎ ((w .rnr ≡ ctrl) × (allowed (w .rasr) ≡ true))
+        by : (s k : Bool) → slotNamed n w ≡ s → ctrlNamed w ≡ k → Quiet (tripleRefusals n w) → ((w .rnr < n) × (¬ (w .rbar / 16 % 2 ≡ 1))) ⊎ ((w .rnr ≡ ctrl) × (allowed (w .rasr) ≡ true))
         by true k e f q = inl (ltb-true _ _ e, eqb-false _ _ (rw e at (q .1 .0)))
         by false true e f q = inr (eqb-true _ _ f, not-false _ (rw f at (q .1 .1 .0)))
         by false false e f q = absurd (true≢false (rw (e, f) at (q .0)))
 
-        quiet : ((w .rnr < n) × (¬ (w .rbar / 16 % 2 ≡ 1))) ⊎ ((w .rnr ≡ ctrl) × (allowed (w .rasr) ≡ true)) → Quiet (triple n w)
+        quiet : ((w .rnr < n) × (¬ (w .rbar / 16 % 2 ≡ 1))) ⊎ ((w .rnr ≡ ctrl) × (allowed (w .rasr) ≡ true)) → Quiet (tripleRefusals n w)
         quiet (inl h) = (rw (lt-ltb _ _ (h .0)), (rw (lt-ltb _ _ (h .0), ne-eqb _ _ (h .1)), (rw (ne-eqb _ _ (λ e. true≢false (sym (lt-ltb _ _ (h .0)) ∙ above e))), tt)))
         quiet (inr h) = (rw (above (h .0), eq-eqb _ _ (h .0)), (rw (above (h .0)), (rw (eq-eqb _ _ (h .0), h .1), tt)))
 

@@ -12,7 +12,7 @@ use Rattle.device.specs.declared.Kind.the-variants.{Read, Write}
 use Rattle.device.specs.declared.Answer.{Answer}
 use Rattle.device.specs.declared.Answer.the-variants.{Private, Unchecked, Undefined, Permitted, Denied, Refused}
 use Rattle.device.specs.Registers.{slotCount, ctrl, allowed}
-use Rattle.device.specs.RegisterWrite.{triple, writeNo}
+use Rattle.device.specs.RegisterWrite.{tripleRefusals, writeNo}
 use Rattle.device.specs.Permission.{rowAnswer}
 use Rattle.device.specs.Decision.{bad, matches, judged, decision, numberOf}
 
@@ -106,7 +106,7 @@ abbrev refused : ℕ → ℕ → ℕ → ℕ → ℕ
 refused c rnr rbar rasr = writeNo slotCount (worked c) (record { rnr = rnr; rbar = rbar; rasr = rasr })
 
 writes-worked : refused 0 7 32 0 ∷ refused 1 8 0 0 ∷ refused 4 7 16 0 ∷ refused 5 ctrl 16 4 ∷ refused 0 ctrl 0 2 ∷ refused 2 ctrl 0 0 ∷ refused 3 8 16 9 ∷ [] ≡ 0 ∷ 10 ∷ 11 ∷ 0 ∷ 12 ∷ 12 ∷ 12 ∷ []
-unfolding writeNo triple allowed
+unfolding writeNo tripleRefusals allowed
 writes-worked = refl
 
 -- ---- the numbers of the answers: only a refused one has one

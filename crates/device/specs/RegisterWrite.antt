@@ -1,8 +1,8 @@
 -- One register write, of a triple (register, RBAR, RASR).
 --   slotNamed n w      == the register is one of the n slots
 --   ctrlNamed w        == the register is the control
---   valid w            == RBAR bit 4
---   triple n w         == what refuses the triple alone, in the order of the paper: 10, 11, 12
+--   validBit w         == RBAR bit 4 is set
+--   tripleRefusals n w == what refuses the triple alone, in the order of the paper: 10, 11, 12
 --   tripleNo n w       == the number of the first that holds; 0 for a sound triple
 --   writeNo n m w      == the same of a write to the MPU m: 12 for the held control, then by the triple
 --   stored n m w       == the MPU with the triple stored: a slot's both values unaltered, or the control, the second value ignored
@@ -26,23 +26,23 @@ slotNamed n w = ltb (w .rnr) n
 abbrev pub ctrlNamed : Write → Bool
 ctrlNamed w = eqb (w .rnr) ctrl
 
-abbrev pub valid : Write → Bool
-valid w = bit (w .rbar / 16)
+abbrev pub validBit : Write → Bool
+validBit w = bit (w .rbar / 16)
 
-unfoldable pub triple : ℕ → Write → List Refusal
-triple n w =
+unfoldable pub tripleRefusals : ℕ → Write → List Refusal
+tripleRefusals n w =
     (not (slotNamed n w) && not (ctrlNamed w) ⇒ 10)
-    ∷ (slotNamed n w && valid w ⇒ 11)
+    ∷ (slotNamed n w && validBit w ⇒ 11)
     ∷ (ctrlNamed w && not (allowed (w .rasr)) ⇒ 12)
     ∷ []
 
 unfoldable pub tripleNo : ℕ → Write → ℕ
-unfolding triple
-tripleNo n w = refuse (triple n w)
+unfolding tripleRefusals
+tripleNo n w = refuse (tripleRefusals n w)
 
 unfoldable pub writeNo : ℕ → Mpu → Write → ℕ
-unfolding triple
-writeNo n m w = refuse ((not (allowed (m .control)) ⇒ 12) ∷ triple n w)
+unfolding tripleRefusals
+writeNo n m w = refuse ((not (allowed (m .control)) ⇒ 12) ∷ tripleRefusals n w)
 
 abbrev pub pairOf : Write → Pair
 pairOf w = record { rbar = w .rbar; rasr = w .rasr }

@@ -4,6 +4,8 @@
 --   rasr a           == 1 + 2 x SIZE + 16777216 x AP, the value for an enabled entry
 --   sizing size      == what refuses a size, in the order of the paper: 2, 3
 --   answer k v       == the number k, beside the value v, or 0 where k refuses
+--   sizeAnswer size  == the number for SIZE, beside its value
+--   rasrAnswer a     == the number for RASR, beside its value
 use mathlib.Core.Bool.{Bool, not}
 use mathlib.Core.List.{List, [], _∷_}
 use Prim.Native.Nat.{ℕ, _+_, _-_, _*_}

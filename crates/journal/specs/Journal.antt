@@ -2,8 +2,9 @@
 --   tripleOf w         == a register write, as a triple of the log
 --   writeText i w      == the line of the write w, counted i
 --   logOf log          == the text of a log: its lines, counted from 0
---   putLog out at log  == the place after the log where the longest would fit, else that the buffer is full
---   afterLog out at log == the buffer then: with the log in it where the longest would fit, else as it was
+--   longestLog         == 600 bytes: ten lines, each of at most 60
+--   putLog out at log  == the place after the log where 600 bytes are left, else that the buffer is full
+--   afterLog out at log == the buffer then: with the log in it where 600 bytes are left, else as it was
 use mathlib.Core.Bool.{Bool}
 use mathlib.Core.List.{List, map}
 use Prim.Native.Nat.{ℕ, _+_}

@@ -1,5 +1,5 @@
 -- Powers of two among the numbers of 32 bits.
---   log2 n   == the k with 2 ^ k ≤ n < 2 ^ (k + 1)
+--   log2 n   == the k with 2 ^ k ≤ n < 2 ^ (k + 1); 0 for 0
 --   isPow2 n == n is 2 ^ k for some k: for its own logarithm, then
 --   Pow2 n   == the same, as a fact
 use mathlib.Core.Path.{_≡_}

@@ -1,5 +1,5 @@
 -- Bounded search, in the direction in which a loop walks. A place passes a test f where f holds of it.
---   lowest f i m     == the lowest place from i on, below m, that passes f; m where none does
+--   lowest f i m     == the lowest place from i on, below m, that passes f; m where none does (for i up to m)
 --   highest f n      == one more than the highest place below n that passes f; 0 where none does
 --   some f i m       == some place from i on, below m, passes f
 --   every f i m      == every place from i on, below m, passes f

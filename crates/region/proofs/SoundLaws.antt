@@ -14,7 +14,7 @@ use Rattle.laws.specs.Refuse.{fresh}
 use Rattle.laws.proofs.BoolLaws.{fails-exactly}
 use Rattle.laws.proofs.RefuseLaws.{accepted, given}
 use Rattle.laws.proofs.PowerLaws.{pow2-exactly, pow-below, power-multiple}
-use Rattle.region.specs.Sound.{minRegionSize, lastByte, soundness, regionNo, Sound}
+use Rattle.region.specs.Sound.{minRegionSize, highestEnd, soundness, regionNo, Sound}
 
 -- ---- what is told of the size, by this list and by that of the fields
 module _ (size : ℕ) (word : size < 2 ^ 32) where
@@ -57,7 +57,7 @@ module _ (base size : ℕ) (word : size < 2 ^ 32) where
         λ s. ((ap not (power size word .1 (s .0)), (le-ltb _ _ (s .1), tt)), ap not (ne-eqb _ _ (s .2))),
       )
 
-  pub refused-5 : (regionNo base size ≡ 5) ↔ (Pow2 size × (minRegionSize ≤ size) × (base % size ≡ 0) × (lastByte < base + size))
+  pub refused-5 : (regionNo base size ≡ 5) ↔ (Pow2 size × (minRegionSize ≤ size) × (base % size ≡ 0) × (highestEnd < base + size))
   unfolding regionNo soundness
   refused-5 =
       Iff·trans (given (soundness base size) refl refl 3 (lit< tt)) (
@@ -69,7 +69,7 @@ module _ (base size : ℕ) (word : size < 2 ^ 32) where
 pub sound-facts : (base size : ℕ) → regionNo base size ≡ 0 → Sound base size
 unfolding regionNo soundness
 sound-facts base size e =
-    let end : base + size ≤ lastByte = ltb-false _ _ (accepted (soundness base size) refl .0 e .1 .1 .1 .0) in
+    let end : base + size ≤ highestEnd = ltb-false _ _ (accepted (soundness base size) refl .0 e .1 .1 .1 .0) in
     sound-exactly base size (omega arith) .0 e
 
 -- a sound base is a multiple of the smallest size, whatever its own

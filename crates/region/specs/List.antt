@@ -1,8 +1,12 @@
 -- A region list: records of three words, base, size and attr; attr is never read. The first `count` are judged.
 --   recordAt ws i      == record i of the words ws
+--   culprit at n       == the lowest unsound record of n, `at` giving each
+--   pairOf at n        == the first pair of n that overlaps, or that there is none
 --   judged at have n   == what is found of n records, `at` giving each, where there are `have` of them
 --   numberOf, placesOf == the number of the paper for an answer, and the indices that it names
 --   listNo, listPlaces == the number that is due, in the order of the paper, and the indices
+--   AllSound, Apart    == each of n records is sound; no two overlap
+--   First at n i j     == i and j are the first pair that overlaps
 --   Says at have n r   == what the answer r says of the list, as facts
 use mathlib.Core.Path.{_≡_}
 use mathlib.Core.Bool.{Bool, false, not}

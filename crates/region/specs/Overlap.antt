@@ -11,13 +11,13 @@ use Rattle.laws.specs.Pick.{pick}
 use Rattle.laws.specs.Refuse.{_⇒_, refuse}
 use Rattle.region.specs.declared.Range.{Range}
 use Rattle.region.specs.declared.Overlap.{Overlap}
-use Rattle.region.specs.Sound.{lastByte}
+use Rattle.region.specs.Sound.{highestEnd}
 
 unfoldable pub overlaps : Range → Range → Bool
 overlaps a b = ltb (a .base) (b .base + b .size) && ltb (b .base) (a .base + a .size)
 
 abbrev pub passes : Range → Bool
-passes a = ltb lastByte (a .base + a .size)
+passes a = ltb highestEnd (a .base + a .size)
 
 unfoldable pub overlapAnswer : Range → Range → Overlap
 overlapAnswer a b =

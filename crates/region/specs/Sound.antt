@@ -1,4 +1,6 @@
--- A region that the MPU can hold.
+-- A sound region: the four conditions of the paper.
+--   minRegionSize       == the smallest size
+--   highestEnd          == the highest base + size
 --   soundness base size == what refuses one region, in the order of the paper: 2, 3, 4, 5
 --   regionNo base size  == the number of the first that holds; 0 for a sound region
 --   Sound base size     == the four conditions of the paper, as facts
@@ -13,15 +15,15 @@ use Rattle.laws.specs.Refuse.{Refusal, _⇒_, refuse}
 abbrev pub minRegionSize : ℕ
 minRegionSize = 32
 
-abbrev pub lastByte : ℕ
-lastByte = 4294967295
+abbrev pub highestEnd : ℕ
+highestEnd = 4294967295
 
 unfoldable pub soundness : ℕ → ℕ → List Refusal
 soundness base size =
     (not (isPow2 size) ⇒ 2)
     ∷ (ltb size minRegionSize ⇒ 3)
     ∷ (not (eqb (base % size) 0) ⇒ 4)
-    ∷ (ltb lastByte (base + size) ⇒ 5)
+    ∷ (ltb highestEnd (base + size) ⇒ 5)
     ∷ []
 
 unfoldable pub regionNo : ℕ → ℕ → ℕ
@@ -32,4 +34,4 @@ pub record Sound (base size : ℕ) : Type 0 where
   pub power : Pow2 size
   pub least : minRegionSize ≤ size
   pub multiple : base % size ≡ 0
-  pub fits : base + size ≤ lastByte
+  pub fits : base + size ≤ highestEnd

@@ -46,7 +46,7 @@ pub fn is_power_of_two(n: u32) -> bool
     (n & (n - 1)) == 0
 }
 
-// Is this region one that the MPU can hold? 0 for yes, else the first reason why not.
+// Is this region sound? 0 for yes, else the first reason why not.
 pub fn validate_region(base: u32, size: u32) -> u32
     ensures { λ r. ⌜ r ≡ regionNo base size ⌝ }
 {
@@ -81,7 +81,7 @@ pub fn regions_overlap(a: Range, b: Range) -> Overlap
     }
 }
 
-// Can the MPU hold these regions together? Records of three words, base, size and attr; the first `count` are judged.
+// Is this a valid list, each region sound and no two overlapping? Records of three words, base, size and attr; the first `count` are judged.
 pub fn validate_region_set(words: &[u32], count: u32) -> Judged
     ensures answer { λ r. ⌜ r ≡ judged (recordAt (now (words .entry))) (records (now (words .entry))) count ⌝ }
     ensures number { λ r. ⌜ numberOf r ≡ listNo (recordAt (now (words .entry))) (records (now (words .entry))) count ⌝ }

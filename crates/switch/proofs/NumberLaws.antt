@@ -1,4 +1,4 @@
--- When a start, and triples made by hand, get each number: the refusal list read by its law, and the first bad triple as the least one. Assumes nothing.
+-- When a start gets each number: the refusal list read by its law. Assumes nothing.
 use mathlib.Core.Path.{_≡_, refl, sym, _∙_, ap}
 use mathlib.Core.List.{List, [], _∷_}
 use mathlib.Core.Bool.{true, false, not}

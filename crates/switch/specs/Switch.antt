@@ -1,12 +1,15 @@
 -- A switch under way, and what starting, stepping and the whole do. n slots: n + 2 writes.
 --   noLog n          == the log of a switch that has written nothing: zeros
+--   fresh n m ws     == the switch of the MPU m that is to write ws: position 0, a log of zeros
 --   startNo n m t p  == what refuses a switch, in the order of the paper: 1, 9, 12
 --   started n m t p  == the number, beside the switch: the triples of the partition, position 0, a log of zeros; zeros for triples where it refuses
 --   due s            == the triple at the switch's position
+--   advanced s m     == the switch s once that triple is written, giving the MPU m: logged at its place, and counted
 --   stepped n s      == one step: finished from position n + 2 on; refused as its register write is; else the write made, logged, counted
 --   steps n k s      == the switch after k steps
 --   whole n m t p    == the number, beside the switch after all its steps; as started where it refuses
 --   stepNo           == the number of the paper for a step's answer
+--   stepDue n s      == the number that is due: none once finished, else the register write's
 use mathlib.Core.Bool.{Bool, not}
 use mathlib.Core.List.{List, [], _∷_}
 use Prim.Native.Nat.{ℕ, zero, suc, _+_}
@@ -44,7 +47,6 @@ started n m t p =
 abbrev pub due : Switch → Write
 due s = getD (s .writes) (s .position) (triple 0 0 0)
 
--- the switch once its due triple is written to give m
 abbrev pub advanced : Switch → Mpu → Switch
 advanced s m = record { mpu = m; writes = s .writes; position = s .position + 1; log = set (s .log) (s .position) (due s) }
 
@@ -67,6 +69,5 @@ stepNo Wrote = 0
 stepNo Finished = 0
 stepNo (Refused k) = k
 
--- the number that is due: none once finished, else the register write's
 unfoldable pub stepDue : ℕ → Switch → ℕ
 stepDue n s = pick (leb (n + 2) (s .position)) 0 (writeRegister n (s .mpu) (due s) .no)

@@ -3,7 +3,9 @@
 --   granted q         == the entry that grants q: as asked, and enabled
 --   firstFree n t p   == the lowest slot of the partition that isn't enabled; n where all are
 --   full n t p        == all slots are enabled
+--   overlapsAny n t p q == the request overlaps an enabled entry of the partition
 --   refusals n t p q  == what refuses, in the order of the paper: 1, 9, 2, 3, 4, 5, 6, 7
+--   builderNo n t p q == the number of the first that holds; 0 where the request is accepted
 --   tryAdd n t p q    == the number, and the table: with q granted in the first free slot where accepted, else as received
 --   Fits, Grants      == what acceptance asks, and what it does, as facts
 use mathlib.Core.Path.{_≡_}

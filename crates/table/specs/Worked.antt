@@ -40,7 +40,7 @@ cases =
     ∷ (step 0 0 2147483648 0 ∷ step 0 2147483648 2147483648 5 ∷ step 0 0xFFFF_FFE0 32 5 ∷ step 0 0xFFFF_FFC0 32 0 ∷ [])
     ∷ []
 
--- ---- three tables by hand
+-- ---- tables by hand
 abbrev entry : ℕ → ℕ → Bool → Entry
 entry b s on = record { base = b; size = s; enabled = on; writable = false }
 

@@ -1,4 +1,4 @@
-// A partition's number and a slot's number: each a type of its own, made only within its bound, and joined in `flat` alone.
+// A partition's number and a slot's number: each a type of its own, made within its bound by `new` and `at`, and joined in `flat` alone.
 ghost use mathlib.Core.Path.{_≡_};
 ghost use Prim.Native.Nat.{_<_};
 ghost use Rattle.table.specs.Numbers.{parts, slots, flatIndex, parted, slotted};

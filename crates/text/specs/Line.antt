@@ -2,6 +2,7 @@
 --   lineText l     == the bytes of one line, as `n=0 rnr=4294967295 rbar=0 rasr=0` and a newline
 --   lines f i ws   == one after the other what f makes of each of ws and its count, the first being counted i
 --   logText ws     == the lines of the triples ws, counted from 0
+--   fieldAt bytes at key == the number behind a key that stands at a place, and the place after it
 --   lineAt bytes at == the line that stands at a place, and the place after it
 use mathlib.Core.List.{List, [], _∷_, _++_}
 use Prim.Native.Nat.{ℕ, suc}

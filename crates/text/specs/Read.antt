@@ -1,5 +1,5 @@
 -- What stands at a place of given bytes.
---   numberOf ds at    == the number that the run of digits ds at a place is: some digit, no zero before another, at most 4294967295
+--   numberOf ds at    == the number that the run of digits ds at a place is: some digit, no leading zero, at most 4294967295
 --   numberAt bytes at == the number whose digits are the longest run from at on, and the place after them
 --   begins bs word    == bs begins with word
 --   wordAt bytes at word == the place after word, where the bytes from at on begin with it
