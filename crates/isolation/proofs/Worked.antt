@@ -15,7 +15,7 @@ use Rattle.table.specs.Built.{Built, empty, add}
 use Rattle.device.specs.declared.Answer.{Answer}
 use Rattle.device.specs.declared.Answer.the-variants.{Unchecked, Permitted, Denied}
 use Rattle.device.specs.Registers.{allowed}
-use Rattle.device.specs.RegisterWrite.{triple, tripleNo, writeNo, stored, writeRegister}
+use Rattle.device.specs.RegisterWrite.{tripleRefusals, tripleNo, writeNo, stored, writeRegister}
 use Rattle.device.specs.Permission.{rowAnswer}
 use Rattle.device.specs.Decision.{bad, matches, judged, decision}
 use Rattle.sequence.specs.Sequence.{slotWrite, writeAt, writes}
@@ -28,9 +28,9 @@ made-by-the-builder : Built slots example
 made-by-the-builder = add (add empty 1 data1) 1 code1
 
 at-every-cut : asked slots zeros example 1 (cutTrace 10) ≡ Unchecked ∷ Unchecked ∷ Unchecked ∷ Unchecked ∷ Unchecked ∷ Unchecked ∷ Unchecked ∷ Unchecked ∷ Unchecked ∷ Unchecked ∷ Permitted ∷ []
-unfolding started startNo stepped writeRegister writeNo tripleNo triple stored allowed decision judged bad matches rowAnswer writes writeAt slotWrite rasr sizeField tryAdd builderNo refusals full firstFree overlapsAny lawful lawfulPart clashAt slotEntry soundness regionNo overlaps isPow2 log2 lowest highest first
+unfolding started startNo stepped writeRegister writeNo tripleNo tripleRefusals stored allowed decision judged bad matches rowAnswer writes writeAt slotWrite rasr sizeField tryAdd builderNo refusals full firstFree overlapsAny lawful lawfulPart clashAt slotEntry soundness regionNo overlaps isPow2 log2 lowest highest first
 at-every-cut = refl
 
 three-bytes : asked slots zeros example 1 afterwards ≡ Permitted ∷ Denied ∷ Denied ∷ Permitted ∷ Denied ∷ []
-unfolding started startNo stepped writeRegister writeNo tripleNo triple stored allowed decision judged bad matches rowAnswer writes writeAt slotWrite rasr sizeField tryAdd builderNo refusals full firstFree overlapsAny lawful lawfulPart clashAt slotEntry soundness regionNo overlaps isPow2 log2 lowest highest first
+unfolding started startNo stepped writeRegister writeNo tripleNo tripleRefusals stored allowed decision judged bad matches rowAnswer writes writeAt slotWrite rasr sizeField tryAdd builderNo refusals full firstFree overlapsAny lawful lawfulPart clashAt slotEntry soundness regionNo overlaps isPow2 log2 lowest highest first
 three-bytes = refl

@@ -10,7 +10,7 @@ use Rattle.region.specs.Sound.{regionNo}
 use Rattle.region.proofs.SoundLaws.{base-multiple}
 use Rattle.device.specs.declared.Write.{Write}
 use Rattle.device.specs.Registers.{ctrl, allowed}
-use Rattle.device.specs.RegisterWrite.{triple, tripleNo}
+use Rattle.device.specs.RegisterWrite.{tripleRefusals, tripleNo}
 use Rattle.table.specs.declared.Table.{Table}
 use Rattle.table.specs.declared.Entry.{Entry}
 use Rattle.table.specs.Table.{slotEntry}
@@ -21,16 +21,16 @@ use Rattle.sequence.proofs.WritesLaws.{write-first, write-slot, write-l
 module _ (n : ℕ) (few : n ≤ ctrl) where
   -- ---- the two control writes
   pub off-sound : tripleNo n off ≡ 0
-  unfolding tripleNo triple allowed
+  unfolding tripleNo tripleRefusals allowed
   off-sound = rw (le-ltb ctrl n few)
 
   pub on-sound : tripleNo n on ≡ 0
-  unfolding tripleNo triple allowed
+  unfolding tripleNo tripleRefusals allowed
   on-sound = rw (le-ltb ctrl n few)
 
   -- ---- a slot's write: its register is a slot's, and bit 4 of its RBAR is clear
   named-sound : (w : Write) → w .rnr < n → w .rbar / 16 % 2 ≡ 0 → tripleNo n w ≡ 0
-  unfolding tripleNo triple
+  unfolding tripleNo tripleRefusals
   named-sound w h z = rw (lt-ltb (w .rnr) n h, ne-eqb (w .rbar / 16 % 2) 1 (omega arith), ne-eqb (w .rnr) ctrl (omega arith))
 
   pub slot-sound : (s : ℕ) (e : Entry) → s < n → (e .enabled ≡ true → regionNo (e .base) (e .size) ≡ 0) → tripleNo n (slotWrite s e) ≡ 0
