@@ -1,4 +1,5 @@
 pub mod Determined
+pub mod FilledLaws
 pub mod FormLaws
 pub mod GatherLaws
 pub mod Worked

@@ -1,3 +1,4 @@
 pub mod Form
+pub mod Filled
 pub mod Gather
 pub mod Worked
