@@ -85,18 +85,22 @@ fn list(text: &[u8]) -> bool {
 
 fn judgement(j: Judged) {
     match j {
-        Judged::Valid => print::key(b"no=", 0),
-        Judged::Short => print::key(b"no=", 8),
-        Judged::Unsound { at, no } => {
-            print::key(b"no=", no);
-            print::key(b" at=", at);
-        }
-        Judged::Pair { i, j } => {
-            print::key(b"no=", 6);
-            print::key(b" i=", i);
-            print::key(b" j=", j);
-        }
+        Judged::Valid => print::number(0),
+        Judged::Short => print::number(8),
+        Judged::Unsound { at, no } => unsound(at, no),
+        Judged::Pair { i, j } => pair(i, j),
     }
+}
+
+fn unsound(at: u32, no: u32) {
+    print::key(b"no=", no);
+    print::key(b" at=", at);
+    print::end();
+}
+
+fn pair(i: u32, j: u32) {
+    print::key(b"no=6 i=", i);
+    print::key(b" j=", j);
     print::end();
 }
 
@@ -109,7 +113,7 @@ fn size(text: &[u8]) -> bool {
 }
 
 fn rasr(text: &[u8]) -> bool {
-    let f = read_whole(text, b"rasr size=# write=?");
+    let f = read_whole(text, b"rasr size=# write=!");
     if f.read {
         let a = Attributes {
             size: f.values[0],

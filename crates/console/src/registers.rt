@@ -15,8 +15,8 @@ pub struct Changed {
 }
 
 pub fn tells(text: &[u8], m: Mpu) -> bool {
-    ask(text, m, b"ask kind=read addr=# priv=?", Kind::Read)
-        || ask(text, m, b"ask kind=write addr=# priv=?", Kind::Write)
+    ask(text, m, b"ask kind=read addr=# priv=!", Kind::Read)
+        || ask(text, m, b"ask kind=write addr=# priv=!", Kind::Write)
         || mpu(text, m)
 }
 

@@ -65,7 +65,7 @@ fn entry(text: &[u8], t: Table) -> bool {
 }
 
 fn add(text: &[u8], t: Table) -> Changed {
-    let f = read_whole(text, b"add part=# base=# size=# write=?");
+    let f = read_whole(text, b"add part=# base=# size=# write=!");
     if !f.read {
         return unknown(t);
     }
@@ -85,7 +85,7 @@ fn add(text: &[u8], t: Table) -> Changed {
 
 // Any entry at any place, lawful or not.
 fn hand(text: &[u8], t: Table) -> Changed {
-    let f = read_whole(text, b"hand at=# enabled=? base=# size=# write=?");
+    let f = read_whole(text, b"hand at=# enabled=! base=# size=# write=!");
     if !f.read {
         return unknown(t);
     }

@@ -1,4 +1,4 @@
--- The form of a line: `#` stands for a number, `?` for a mark, 0 or 1, any other byte for itself.
+-- The form of a line: `#` stands for a number, `!` for a mark, 0 or 1, any other byte for itself.
 --   takesNumber c             == the byte c of a form stands for a number or a mark
 --   valueAt c bytes at        == the number at a place; where c asks for a mark, 0 or 1
 --   standsAt bytes at c       == the byte c stands at a place
@@ -27,9 +27,9 @@ most = 5
 abbrev pub numberSign : ℕ
 numberSign = 35
 
--- `?`
+-- `!`
 abbrev pub markSign : ℕ
-markSign = 63
+markSign = 33
 
 abbrev pub noForm : Formed
 noForm = record { read = false; next = 0; count = 0; values = replicate most 0 }

@@ -22,7 +22,7 @@ nothing = 0 ∷ 0 ∷ 0 ∷ 0 ∷ 0 ∷ 0 ∷ 0 ∷ 0 ∷ []
 abbrev pub cases : List Case
 cases =
     record { got = shown (formOf (ascii "pow2 n=64") (ascii "pow2 n=#")); due = 1 ∷ 9 ∷ 1 ∷ 64 ∷ 0 ∷ 0 ∷ 0 ∷ 0 ∷ [] }
-    ∷ record { got = shown (formOf (ascii "rasr size=32 write=1") (ascii "rasr size=# write=?")); due = 1 ∷ 20 ∷ 2 ∷ 32 ∷ 1 ∷ 0 ∷ 0 ∷ 0 ∷ [] }
+    ∷ record { got = shown (formOf (ascii "rasr size=32 write=1") (ascii "rasr size=# write=!")); due = 1 ∷ 20 ∷ 2 ∷ 32 ∷ 1 ∷ 0 ∷ 0 ∷ 0 ∷ [] }
     ∷ record { got = shown (formOf (ascii "step") (ascii "step")); due = 1 ∷ 4 ∷ 0 ∷ 0 ∷ 0 ∷ 0 ∷ 0 ∷ 0 ∷ [] }
     ∷ record { got = shown (formAt (ascii "list count=2 base=0") 0 (ascii "list count=#")); due = 1 ∷ 12 ∷ 1 ∷ 2 ∷ 0 ∷ 0 ∷ 0 ∷ 0 ∷ [] }
     ∷ record { got = shown (formAt (ascii "ab=7") 1 (ascii "b=#")); due = 1 ∷ 4 ∷ 1 ∷ 7 ∷ 0 ∷ 0 ∷ 0 ∷ 0 ∷ [] }
@@ -32,7 +32,7 @@ cases =
     ∷ record { got = shown (formOf (ascii "pow2 n=") (ascii "pow2 n=#")); due = nothing }
     ∷ record { got = shown (formOf (ascii "pow2 n=064") (ascii "pow2 n=#")); due = nothing }
     ∷ record { got = shown (formOf (ascii "pow2 n=4294967296") (ascii "pow2 n=#")); due = nothing }
-    ∷ record { got = shown (formOf (ascii "rasr size=32 write=2") (ascii "rasr size=# write=?")); due = nothing }
+    ∷ record { got = shown (formOf (ascii "rasr size=32 write=2") (ascii "rasr size=# write=!")); due = nothing }
     ∷ record { got = shown (formOf (ascii "ste") (ascii "step")); due = nothing }
     ∷ record { got = shown (formOf [] (ascii "step")); due = nothing }
     ∷ []

@@ -1,5 +1,5 @@
 // Lines of commands: a line gathered byte by byte, and its numbers read where it has a given form.
-// A form is the line itself, with `#` where a number stands and `?` where a mark does, 0 or 1: `add part=# base=# size=# write=?`.
+// A form is the line itself, with `#` where a number stands and `!` where a mark does, 0 or 1: `add part=# base=# size=# write=!`.
 use text::Number;
 ghost use mathlib.Core.Path.{_≡_};
 ghost use Prim.Native.Nat.{_+_, _<_, _^_};
@@ -12,7 +12,7 @@ pub const VALUES: usize = 5;
 
 const NUMBER: u8 = b'#';
 
-const MARK: u8 = b'?';
+const MARK: u8 = b'!';
 
 // A form that is read: the place after it, how many numbers it has, and the numbers in turn. All zeros where it is not there.
 pub struct Formed {

@@ -191,30 +191,17 @@ fn ask_sound(at: usize, n: usize) -> Scan
 fn ask_pairs(at: usize, n: usize) -> Scan
     ensures { λ r. ⌜ r ≡ askPairs at n ⌝ }
 {
-    let first = Range { base: 0, size: 0 };
-    Scan {
-        more: true,
-        pairs: true,
-        beside: false,
-        at,
-        i: 0,
-        n,
-        first,
-        answer: Judged::Valid,
-    }
+    let mut s = ask_sound(at, n);
+    s.pairs = true;
+    s
 }
 
 fn ask_beside(i: usize, first: Range, at: usize, n: usize) -> Scan
     ensures { λ r. ⌜ r ≡ askBeside i first at n ⌝ }
 {
-    Scan {
-        more: true,
-        pairs: true,
-        beside: true,
-        at,
-        i,
-        n,
-        first,
-        answer: Judged::Valid,
-    }
+    let mut s = ask_pairs(at, n);
+    s.beside = true;
+    s.i = i;
+    s.first = first;
+    s
 }
