@@ -1,0 +1,4 @@
+mod FilledLaws
+mod AfterLaws
+mod ListAtLaws
+mod Determined

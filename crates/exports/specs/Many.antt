@@ -1,0 +1,47 @@
+-- What the exported routines answer: the list of single answers.
+--   decisionAt ms ws i     == the number of the decision of the MPU ms about access i of ws
+--   tableAfter ws i        == the table after the first i requests, from the empty one on
+--   addedAt ws i           == the builder's answer to request i
+--   switchAfter t m ps i   == the last of i switches, each going on from the MPU of the one before; at first, one that wrote nothing
+--   switchedAt t m ps i    == the number of switch i
+--   foundAt ws n i         == what list i is found to be, as a number
+use mathlib.Core.List.{List}
+use Prim.Native.Nat.{ℕ, zero, suc, _/_}
+use lib.ListN.{length}
+use Rattle.region.specs.List.{recordAt, records, judged}
+use Rattle.device.specs.declared.Mpu.{Mpu}
+use Rattle.device.specs.Registers.{slotCount}
+use Rattle.device.specs.Decision.{decision}
+use Rattle.table.specs.declared.Table.{Table}
+use Rattle.table.specs.declared.Added.{Added}
+use Rattle.table.specs.Numbers.{slots}
+use Rattle.table.specs.Table.{emptyTable}
+use Rattle.table.specs.Builder.{tryAdd}
+use Rattle.switch.specs.declared.Switch.{Switch}
+use Rattle.switch.specs.declared.Started.{Started}
+use Rattle.switch.specs.Switch.{noLog, fresh, whole}
+use Rattle.exports.specs.Words.{wordAt, mpuOf, accessAt, answerNo, partAt, requestAt, listAt, judgedNo}
+
+abbrev pub decisionAt : List ℕ → List ℕ → ℕ → ℕ
+decisionAt ms ws i = answerNo (decision slotCount (mpuOf ms) (accessAt ws i))
+
+unfoldable pub tableAfter : List ℕ → ℕ → Table
+tableAfter ws zero = emptyTable slots
+tableAfter ws (suc i) = tryAdd slots (tableAfter ws i) (partAt ws i) (requestAt ws i) .table
+
+abbrev pub addedAt : List ℕ → ℕ → Added
+addedAt ws i = tryAdd slots (tableAfter ws i) (partAt ws i) (requestAt ws i)
+
+-- the table of all the requests that are whole
+abbrev pub tableOf : List ℕ → Table
+tableOf ws = tableAfter ws (length ws / 4)
+
+unfoldable pub switchAfter : Table → Mpu → List ℕ → ℕ → Switch
+switchAfter t m ps zero = fresh slots m (noLog slots)
+switchAfter t m ps (suc i) = whole slots (switchAfter t m ps i .mpu) t (wordAt ps i) .switch
+
+abbrev pub switchedAt : Table → Mpu → List ℕ → ℕ → Started
+switchedAt t m ps i = whole slots (switchAfter t m ps i .mpu) t (wordAt ps i)
+
+abbrev pub foundAt : List ℕ → ℕ → ℕ → ℕ
+foundAt ws n i = judgedNo (judged (recordAt (listAt ws n i)) (records (listAt ws n i)) n)
