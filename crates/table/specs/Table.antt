@@ -1,4 +1,5 @@
 -- The table as four arrays, and its entries.
+--   tableOf b s e w   == the table of these four arrays
 --   entryAt t i       == what the four arrays hold at place i
 --   withEntry t i e   == the table with e at place i, and every other place as it was
 --   emptyTable n      == zero and false in all four arrays, n slots a partition
@@ -6,6 +7,7 @@
 --   noEntry           == zeros, not enabled
 --   entryAnswer n t p s == the slot's entry, or noEntry where p or s is out of range
 use mathlib.Core.Bool.{Bool, false, _&&_}
+use mathlib.Core.List.{List}
 use Prim.Native.Nat.{ℕ, _*_}
 use lib.Dec.{ltb}
 use lib.ListN.{getD, set, replicate}
@@ -13,6 +15,9 @@ use Rattle.laws.specs.Pick.{pick}
 use Rattle.table.specs.declared.Table.{Table}
 use Rattle.table.specs.declared.Entry.{Entry}
 use Rattle.table.specs.Numbers.{parts, flatIndex}
+
+abbrev pub tableOf : List ℕ → List ℕ → List Bool → List Bool → Table
+tableOf b s e w = record { base = b; size = s; enabled = e; writable = w }
 
 abbrev pub entryAt : Table → ℕ → Entry
 entryAt t i =

@@ -15,7 +15,7 @@ ghost use Prim.Native.Nat.{_+_, _<_, _≤_};
 ghost use lib.Dec.{ltb, leb};
 ghost use Rattle.laws.specs.Search.{lowest, some};
 ghost use Rattle.table.specs.Numbers.{parts, slots, cells};
-ghost use Rattle.table.specs.Table.{entryAt, withEntry, emptyTable, slotEntry, entryAnswer};
+ghost use Rattle.table.specs.Table.{withEntry, emptyTable, slotEntry, entryAnswer, tableOf};
 ghost use Rattle.table.specs.Entries.{rangeOf, asked, slotAsked};
 ghost use Rattle.table.specs.Lawful.{clashAt, lawfulPart, lawful};
 ghost use Rattle.table.specs.Covers.{coverAnswer};
@@ -135,7 +135,13 @@ impl Table {
     {
         let mut p = 0;
         while p < PARTS {
-            if !self.lawful_part(Part::at(p)) {
+            if !lawful_part(
+                &self.base,
+                &self.size,
+                &self.enabled,
+                &self.writable,
+                Part::at(p),
+            ) {
                 return false;
             }
             p += 1;
@@ -149,7 +155,7 @@ impl Table {
     {
         if p.0 < PARTS {
             if s.0 < SLOTS {
-                return self.peek(p, s);
+                return peek(&self.base, &self.size, &self.enabled, &self.writable, p, s);
             }
         }
         Entry {
@@ -160,72 +166,20 @@ impl Table {
         }
     }
 
-    fn lawful_part(self, p: Part) -> bool
-        requires { ⌜ p .0 < parts ⌝ }
-        ensures { λ r. ⌜ r ≡ lawfulPart slots self (p .0) ⌝ }
-    {
-        if self.first_slot(p, 0, Question::Unsound) < SLOTS {
-            return false;
-        }
-        !self.clashes(p)
-    }
-
-    // Does some enabled entry of the partition meet a later one?
-    fn clashes(self, p: Part) -> bool
-        requires { ⌜ p .0 < parts ⌝ }
-        ensures { λ r. ⌜ r ≡ some (clashAt slots self (p .0)) 0 slots ⌝ }
-    {
-        let mut i = 0;
-        while i < SLOTS {
-            if self.clashes_at(p, Slot::at(i)) {
-                return true;
-            }
-            i += 1;
-        }
-        false
-    }
-
-    fn clashes_at(self, p: Part, s: Slot) -> bool
-        requires { ⌜ (p .0 < parts) × (s .0 < slots) ⌝ }
-        ensures { λ r. ⌜ r ≡ clashAt slots self (p .0) (s .0) ⌝ }
-    {
-        let e = self.peek(p, s);
-        e.enabled && self.first_slot(p, s.0 + 1, Question::Meets(range_of(e))) < SLOTS
-    }
-
     // The lowest slot from `from` on whose entry answers yes; 8 where none does.
     fn first_slot(self, p: Part, from: u32, what: Question) -> u32
         requires { ⌜ (p .0 < parts) × (from ≤ slots) ⌝ }
         ensures { λ r. ⌜ r ≡ lowest (slotAsked slots self (p .0) what) from slots ⌝ }
     {
-        let mut s = from;
-        while s < SLOTS {
-            if ask(self.peek(p, Slot::at(s)), what) {
-                return s;
-            }
-            s += 1;
-        }
-        s
-    }
-
-    fn peek(self, p: Part, s: Slot) -> Entry
-        requires { ⌜ (p .0 < parts) × (s .0 < slots) ⌝ }
-        ensures { λ r. ⌜ r ≡ slotEntry slots self (p .0) (s .0) ⌝ }
-    {
-        self.read(flat(p, s))
-    }
-
-    // These two alone touch the four arrays.
-    fn read(self, i: usize) -> Entry
-        requires { ⌜ i < cells ⌝ }
-        ensures { λ r. ⌜ r ≡ entryAt self i ⌝ }
-    {
-        Entry {
-            base: self.base[i],
-            size: self.size[i],
-            enabled: self.enabled[i],
-            writable: self.writable[i],
-        }
+        lowest_slot(
+            &self.base,
+            &self.size,
+            &self.enabled,
+            &self.writable,
+            p,
+            from,
+            what,
+        )
     }
 
     fn with(self, i: usize, e: Entry) -> Table
@@ -238,6 +192,112 @@ impl Table {
         t.enabled[i] = e.enabled;
         t.writable[i] = e.writable;
         t
+    }
+}
+
+// What follows is lent the four arrays: a table by value would be copied, 320 bytes a call.
+fn lawful_part<'a>(
+    base: &'a [u32; 32],
+    size: &'a [u32; 32],
+    enabled: &'a [bool; 32],
+    writable: &'a [bool; 32],
+    p: Part,
+) -> bool
+    requires { ⌜ p .0 < parts ⌝ }
+    ensures { λ r. ⌜ r ≡ lawfulPart slots (tableOf (now (base .entry)) (now (size .entry)) (now (enabled .entry)) (now (writable .entry))) (p .0) ⌝ }
+{
+    if lowest_slot(base, size, enabled, writable, p, 0, Question::Unsound) < SLOTS {
+        return false;
+    }
+    !clashes(base, size, enabled, writable, p)
+}
+
+// Does some enabled entry of the partition meet a later one?
+fn clashes<'a>(
+    base: &'a [u32; 32],
+    size: &'a [u32; 32],
+    enabled: &'a [bool; 32],
+    writable: &'a [bool; 32],
+    p: Part,
+) -> bool
+    requires { ⌜ p .0 < parts ⌝ }
+    ensures { λ r. ⌜ r ≡ some (clashAt slots (tableOf (now (base .entry)) (now (size .entry)) (now (enabled .entry)) (now (writable .entry))) (p .0)) 0 slots ⌝ }
+{
+    let mut i = 0;
+    while i < SLOTS {
+        if clashes_at(base, size, enabled, writable, p, Slot::at(i)) {
+            return true;
+        }
+        i += 1;
+    }
+    false
+}
+
+fn clashes_at<'a>(
+    base: &'a [u32; 32],
+    size: &'a [u32; 32],
+    enabled: &'a [bool; 32],
+    writable: &'a [bool; 32],
+    p: Part,
+    s: Slot,
+) -> bool
+    requires { ⌜ (p .0 < parts) × (s .0 < slots) ⌝ }
+    ensures { λ r. ⌜ r ≡ clashAt slots (tableOf (now (base .entry)) (now (size .entry)) (now (enabled .entry)) (now (writable .entry))) (p .0) (s .0) ⌝ }
+{
+    let e = peek(base, size, enabled, writable, p, s);
+    e.enabled
+        && lowest_slot(
+            base,
+            size,
+            enabled,
+            writable,
+            p,
+            s.0 + 1,
+            Question::Meets(range_of(e)),
+        )
+            < SLOTS
+}
+
+// The lowest slot from `from` on whose entry answers yes; 8 where none does.
+fn lowest_slot<'a>(
+    base: &'a [u32; 32],
+    size: &'a [u32; 32],
+    enabled: &'a [bool; 32],
+    writable: &'a [bool; 32],
+    p: Part,
+    from: u32,
+    what: Question,
+) -> u32
+    requires { ⌜ (p .0 < parts) × (from ≤ slots) ⌝ }
+    ensures { λ r. ⌜ r ≡ lowest (slotAsked slots (tableOf (now (base .entry)) (now (size .entry)) (now (enabled .entry)) (now (writable .entry))) (p .0) what) from slots ⌝ }
+{
+    let mut s = from;
+    while s < SLOTS {
+        if ask(peek(base, size, enabled, writable, p, Slot::at(s)), what) {
+            return s;
+        }
+        s += 1;
+    }
+    s
+}
+
+fn peek<'a>(
+    base: &'a [u32; 32],
+    size: &'a [u32; 32],
+    enabled: &'a [bool; 32],
+    writable: &'a [bool; 32],
+    p: Part,
+    s: Slot,
+) -> Entry
+    requires { ⌜ (p .0 < parts) × (s .0 < slots) ⌝ }
+    ensures { λ r. ⌜ r ≡ slotEntry slots (tableOf (now (base .entry)) (now (size .entry)) (now (enabled .entry)) (now (writable .entry))) (p .0) (s .0) ⌝ }
+{
+    let i = flat(p, s);
+    Entry {
+        base: base[i],
+        size: size[i],
+        enabled: enabled[i],
+        writable: writable[i],
     }
 }
 

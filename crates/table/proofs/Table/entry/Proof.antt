@@ -7,7 +7,9 @@ use Rattle.table.proofs.Table.entry.Tie as tie
 
 returns : tie.Need-returns
 unfolding entryAnswer
-returns c = rw (lt-ltb _ _ (c .before .before .before .if1 .taken), lt-ltb _ _ (c .before .if2 .taken)) (c .peek .ensures)
+returns c =
+    let within = c .before .before .before .before .before .before in
+    rw (lt-ltb _ _ (within .before .before .if1 .taken), lt-ltb _ _ (within .if2 .taken)) (c .peek .ensures)
 
 returns-2 : tie.Need-returns-2
 unfolding entryAnswer

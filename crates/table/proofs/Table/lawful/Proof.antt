@@ -16,21 +16,25 @@ Inv-loop self p₀ p = (p ≤ parts) × (some (λ k. not (lawfulPart slots self 
 abbrev μ-loop : tie.MeasureT-loop
 μ-loop self p₀ p = parts - p
 
+-- the turn that a partition is judged in
+abbrev turn : tie.After-lawful-part Inv-loop μ-loop → tie.In-loop Inv-loop μ-loop
+turn c = c .before .before .before .before .before .before .before
+
 -- this partition's answer
 answer : (c : tie.After-lawful-part Inv-loop μ-loop) →
-    let l = c .before .before .before in
-    c .lawful-part .result ≡ lawfulPart slots (l .before .args .self) (l .loop .p)
-answer c = c .lawful-part .ensures ∙ ap (lawfulPart slots (c .before .before .before .before .args .self)) (c .before .at .ensures)
+    let l = turn c .before in
+    c .lawful-part .result ≡ lawfulPart slots (l .before .args .t1) (l .loop .p)
+answer c = c .lawful-part .ensures ∙ ap (lawfulPart slots (turn c .before .before .args .t1)) (c .before .at .ensures)
 
 returns : tie.Need-returns Inv-loop μ-loop
 unfolding lawful
 returns c =
-    let t = c .before .before .before in
+    let t = turn (c .before) in
     ap not (sym (t .before .loop .inv .1 ∙ some-here _ (t .loop-test .taken) (ap not (sym (answer (c .before))) ∙ c .if1 .taken)))
 
 loop-again : tie.Need-loop-again Inv-loop μ-loop
 loop-again c =
-    let t = c .before .before .before in
+    let t = turn (c .before) in
     (search needs, t .before .loop .inv .1 ∙ some-next _ (t .loop-test .taken) (ap not (sym (answer (c .before))) ∙ c .if1 .left))
 
 returns-2 : tie.Need-returns-2 Inv-loop μ-loop

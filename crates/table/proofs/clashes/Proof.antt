@@ -5,23 +5,24 @@ use borrow.Author.Needs.{needs}
 use Rattle.laws.specs.Search.{some}
 use Rattle.laws.proofs.SearchLaws.{some-here, some-next, some-end}
 use Rattle.table.specs.Numbers.{slots}
+use Rattle.table.specs.Table.{tableOf}
 use Rattle.table.specs.Lawful.{clashAt}
-use Rattle.table.proofs.Table.clashes.Statement.{statement}
-use Rattle.table.proofs.Table.clashes.Tie as tie
+use Rattle.table.proofs.clashes.Statement.{statement}
+use Rattle.table.proofs.clashes.Tie as tie
 
 abbrev Inv-loop : tie.InvT-loop
-Inv-loop self p i₀ i = (i ≤ slots) × (some (clashAt slots self (p .0)) 0 slots ≡ some (clashAt slots self (p .0)) i slots)
+Inv-loop base size enabled writable p i₀ i = (i ≤ slots) × (some (clashAt slots (tableOf base size enabled writable) (p .0)) 0 slots ≡ some (clashAt slots (tableOf base size enabled writable) (p .0)) i slots)
 
 abbrev μ-loop : tie.MeasureT-loop
-μ-loop self p i₀ i = slots - i
+μ-loop base size enabled writable p i₀ i = slots - i
 
 -- this slot's answer
 answer : (c : tie.After-clashes-at Inv-loop μ-loop) →
     let l = c .before .before .before in
-    c .clashes-at .result ≡ clashAt slots (l .before .args .self) (l .before .args .p .0) (l .loop .i)
+    c .clashes-at .result ≡ clashAt slots (tableOf (l .before .args .base .now) (l .before .args .size .now) (l .before .args .enabled .now) (l .before .args .writable .now)) (l .before .args .p .0) (l .loop .i)
 answer c =
     let l = c .before .before .before in
-    c .clashes-at .ensures ∙ ap (clashAt slots (l .before .args .self) (l .before .args .p .0)) (c .before .at .ensures)
+    c .clashes-at .ensures ∙ ap (clashAt slots (tableOf (l .before .args .base .now) (l .before .args .size .now) (l .before .args .enabled .now) (l .before .args .writable .now)) (l .before .args .p .0)) (c .before .at .ensures)
 
 returns : tie.Need-returns Inv-loop μ-loop
 returns c =

@@ -3,14 +3,14 @@ use mathlib.Core.Path.{_≡_, sym, _∙_, ap}
 use borrow.Author.Needs.{needs}
 use Rattle.table.specs.Entries.{rangeOf}
 use Rattle.table.specs.Lawful.{clashAt}
-use Rattle.table.proofs.Table.clashes_at.Statement.{statement}
-use Rattle.table.proofs.Table.clashes_at.Tie as tie
+use Rattle.table.proofs.clashes_at.Statement.{statement}
+use Rattle.table.proofs.clashes_at.Tie as tie
 
 returns : tie.Need-returns
 unfolding clashAt
 returns c =
     let e = c .before .before .before .before in
-    rw (sym (e .peek .ensures), c .before .before .before .if1 .taken, c .first-slot .ensures, c .before .range-of .ensures)
+    rw (sym (e .peek .ensures), c .before .before .before .if1 .taken, c .lowest-slot .ensures, c .before .range-of .ensures)
 
 returns-2 : tie.Need-returns-2
 unfolding clashAt
