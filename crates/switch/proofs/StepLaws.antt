@@ -1,9 +1,7 @@
 -- What one step does, by what its register write would answer; and its number. By the definition's two tests. Assumes nothing.
 use mathlib.Core.Path.{_≡_, refl, sym, _∙_, ap}
 use mathlib.Core.Bool.{Bool, true, false}
-use Prim.Native.Nat.{ℕ, zero, suc, _+_, _-_, _≤_, _<_}
-use native.Mathlib.Nat.{not-suc-le-zero}
-use native.Mathlib.Omega.{arith}
+use Prim.Native.Nat.{ℕ, _+_, _≤_, _<_}
 use borrow.Author.Tests.{le-leb, lt-leb, ne-eqb, eqb-true}
 use lib.Dec.{leb, eqb}
 use Rattle.laws.specs.Pick.{pick}
@@ -11,7 +9,7 @@ use Rattle.device.specs.RegisterWrite.{writeRegister}
 use Rattle.switch.specs.declared.Switch.{Switch}
 use Rattle.switch.specs.declared.Did.the-variants.{Wrote, Finished, Refused}
 use Rattle.switch.specs.declared.Stepped.{Stepped}
-use Rattle.switch.specs.Switch.{due, advanced, stepped, steps, stepNo, stepDue}
+use Rattle.switch.specs.Switch.{due, advanced, stepped, stepNo, stepDue}
 
 module _ (n : ℕ) (s : Switch) where
   pub step-finished : n + 2 ≤ s .position → stepped n s ≡ record { did = Finished; switch = s }
@@ -37,14 +35,3 @@ module _ (n : ℕ) (s : Switch) where
 
   pub in-number : {r : Stepped} → r ≡ stepped n s → (r ≡ stepped n s) × (stepNo (r .did) ≡ stepDue n s)
   in-number e = (e, ap (λ (r : Stepped). stepNo (r .did)) e ∙ step-number)
-
--- ---- several steps: the first, and then the rest
-pub steps-next : (n k : ℕ) (s : Switch) → 0 < k → steps n k s ≡ steps n (k - 1) (stepped n s .switch)
-unfolding steps
-steps-next n zero s h = absurd (not-suc-le-zero h)
-steps-next n (suc k) s h = let less : suc k - 1 ≡ k = omega arith in ap (λ (x : ℕ). steps n x (stepped n s .switch)) (sym less)
-
-pub steps-none : (n k : ℕ) (s : Switch) → k ≤ 0 → steps n k s ≡ s
-unfolding steps
-steps-none n zero s h = refl
-steps-none n (suc k) s h = absurd (not-suc-le-zero h)

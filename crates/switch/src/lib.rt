@@ -8,7 +8,7 @@ ghost use mathlib.Core.List.{List};
 ghost use Prim.Native.Nat.{_≤_};
 ghost use lib.ListN.{length};
 ghost use Rattle.table.specs.Numbers.{slots};
-ghost use Rattle.switch.specs.Switch.{noLog, fresh, started, stepped, stepNo, stepDue, steps, whole};
+ghost use Rattle.switch.specs.Switch.{noLog, fresh, started, stepped, stepNo, stepDue, whole};
 ghost use Rattle.switch.specs.Applied.{firstBad, writeAll, applied};
 
 // A switch under way: the MPU, the ten triples, how many of them were written, and what was.
@@ -99,7 +99,8 @@ pub fn step(s: Switch) -> Stepped
     }
 }
 
-// Switch this MPU to a partition: start, and all ten steps.
+// Switch this MPU to a partition: start, and all ten steps. No step of a switch that was started is refused, so the ten writes are made at once, and
+// each is logged: a switch is not copied for each step.
 pub fn switch_to_partition(m: Mpu, t: Table, part: u32) -> Started
     ensures { λ r. ⌜ r ≡ whole slots m t part ⌝ }
 {
@@ -108,9 +109,16 @@ pub fn switch_to_partition(m: Mpu, t: Table, part: u32) -> Started
         return b;
     }
     let s = b.switch;
+    let writes = s.writes;
+    let mpu = write_all(m, writes);
     Started {
         no: 0,
-        switch: all_steps(s),
+        switch: Switch {
+            mpu,
+            writes,
+            position: WRITES as u32,
+            log: writes,
+        },
     }
 }
 
@@ -161,20 +169,6 @@ fn no_log() -> [Write; WRITES]
         rasr: 0,
     };
     [w; WRITES]
-}
-
-fn all_steps(s: Switch) -> Switch
-    ensures { λ r. ⌜ r ≡ steps slots 10 s ⌝ }
-{
-    let mut now = s;
-    let mut left = WRITES;
-    while 0 < left {
-        let done = step(now);
-        let next = done.switch;
-        now = next;
-        left -= 1;
-    }
-    now
 }
 
 // The first triple that would be refused; 10 where none would.
