@@ -14,6 +14,7 @@ ghost use lib.ListN.{replicate};
 ghost use Rattle.region.specs.Sound.{regionNo};
 ghost use Rattle.device.specs.Registers.{ctrl};
 ghost use Rattle.table.specs.Numbers.{parts, slots};
+ghost use Rattle.table.specs.Table.{tableOf};
 ghost use Rattle.table.specs.Lawful.{lawful};
 ghost use Rattle.sequence.specs.Sequence.{triple, slotWrite, writeAt, writes, sequence};
 
@@ -61,15 +62,23 @@ fn all_writes(t: Table, p: Part) -> [Write; WRITES]
     let mut ws = [blank(); WRITES];
     let mut i = 0;
     while i < WRITES {
-        ws[i] = write_at(t, p, i as u32);
+        ws[i] = write_at(&t.base, &t.size, &t.enabled, &t.writable, p, i as u32);
         i += 1;
     }
     ws
 }
 
-fn write_at(t: Table, p: Part, i: u32) -> Write
-    requires { ⌜ (p .0 < parts) × (lawful slots t ≡ true) ⌝ }
-    ensures { λ r. ⌜ r ≡ writeAt slots t (p .0) i ⌝ }
+// Lent the table's four arrays, since a table by value would be copied for each write.
+fn write_at<'a>(
+    base: &'a [u32; 32],
+    size: &'a [u32; 32],
+    enabled: &'a [bool; 32],
+    writable: &'a [bool; 32],
+    p: Part,
+    i: u32,
+) -> Write
+    requires { ⌜ (p .0 < parts) × (lawful slots (tableOf (now base) (now size) (now enabled) (now writable)) ≡ true) ⌝ }
+    ensures { λ r. ⌜ r ≡ writeAt slots (tableOf (now (base .entry)) (now (size .entry)) (now (enabled .entry)) (now (writable .entry))) (p .0) i ⌝ }
 {
     if i == 0 {
         return control(DISABLE);
@@ -77,7 +86,7 @@ fn write_at(t: Table, p: Part, i: u32) -> Write
     let Slotted::Is(s) = Slot::new(i - 1) else {
         return control(ENABLE);
     };
-    slot_write(s, t.entry(p, s))
+    slot_write(s, table::entry_of(base, size, enabled, writable, p, s))
 }
 
 fn control(value: u32) -> Write

@@ -15,6 +15,7 @@ use Rattle.table.proofs.Table.try_add_region.Reads as try-add-region
 use Rattle.table.proofs.Table.covers_addr.Reads as covers-addr
 use Rattle.table.proofs.Table.lawful.Reads as lawful
 use Rattle.table.proofs.Table.entry.Reads as entry
+use Rattle.table.proofs.entry_of.Reads as entry-of
 
 part-new-once : (a : _) (r s : Parted) (e f : _) → part-new.Post tt a r e → part-new.Post tt a s f → r ≡ s
 part-new-once a r s e f p q = p ∙ sym q
@@ -36,3 +37,6 @@ lawful-once a r s e f p q = p ∙ sym q
 
 entry-once : (a : _) (r s : Entry) (e f : _) → entry.Post tt a r e → entry.Post tt a s f → r ≡ s
 entry-once a r s e f p q = p ∙ sym q
+
+entry-of-once : (k : _) (a : _) (r s : Entry) (e f : _) → entry-of.Post k a r e → entry-of.Post k a s f → r ≡ s
+entry-of-once k a r s e f p q = p ∙ sym q

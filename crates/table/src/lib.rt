@@ -153,17 +153,7 @@ impl Table {
     pub fn entry(self, p: Part, s: Slot) -> Entry
         ensures { λ r. ⌜ r ≡ entryAnswer slots self (p .0) (s .0) ⌝ }
     {
-        if p.0 < PARTS {
-            if s.0 < SLOTS {
-                return peek(&self.base, &self.size, &self.enabled, &self.writable, p, s);
-            }
-        }
-        Entry {
-            base: 0,
-            size: 0,
-            enabled: false,
-            writable: false,
-        }
+        entry_of(&self.base, &self.size, &self.enabled, &self.writable, p, s)
     }
 
     // The lowest slot from `from` on whose entry answers yes; 8 where none does.
@@ -192,6 +182,30 @@ impl Table {
         t.enabled[i] = e.enabled;
         t.writable[i] = e.writable;
         t
+    }
+}
+
+// The same of a table whose four arrays are lent.
+pub fn entry_of<'a>(
+    base: &'a [u32; 32],
+    size: &'a [u32; 32],
+    enabled: &'a [bool; 32],
+    writable: &'a [bool; 32],
+    p: Part,
+    s: Slot,
+) -> Entry
+    ensures { λ r. ⌜ r ≡ entryAnswer slots (tableOf (now (base .entry)) (now (size .entry)) (now (enabled .entry)) (now (writable .entry))) (p .0) (s .0) ⌝ }
+{
+    if p.0 < PARTS {
+        if s.0 < SLOTS {
+            return peek(base, size, enabled, writable, p, s);
+        }
+    }
+    Entry {
+        base: 0,
+        size: 0,
+        enabled: false,
+        writable: false,
     }
 }
 

@@ -14,19 +14,20 @@ use Rattle.sequence.proofs.all_writes.Statement.{statement}
 use Rattle.sequence.proofs.all_writes.Tie as tie
 
 abbrev Inv-loop : tie.InvT-loop
-Inv-loop t p ws₀ i₀ ws i = (i ≤ 10) × (length ws₀ ≡ 10) × (ws ≡ listed (writeAt slots t (p .0)) 0 i ++ drop i ws₀)
+Inv-loop p t ws₀ i₀ ws i = (i ≤ 10) × (length ws₀ ≡ 10) × (ws ≡ listed (writeAt slots t (p .0)) 0 i ++ drop i ws₀)
 
 abbrev μ-loop : tie.MeasureT-loop
-μ-loop t p ws₀ i₀ ws i = 10 - i
+μ-loop p t ws₀ i₀ ws i = 10 - i
 
 loop-again : tie.Need-loop-again Inv-loop μ-loop
 loop-again c =
-    let l = c .before .before in
+    let turn = c .before .before .before .before .before .before in
+    let l = turn .before in
     let a = l .before .before .args in (
       search needs,
       refl,
       ap₂ (λ (ws : List Write) (w : Write). set ws (l .loop .i) w) (l .loop .inv .2) (c .write-at .ensures)
-          ∙ fill-next (writeAt slots (a .t) (a .p .0)) _ (triple 0 0 0) (l .loop .i) (c .before .loop-test .taken),
+          ∙ fill-next (writeAt slots (a .t1) (a .p .0)) _ (triple 0 0 0) (l .loop .i) (turn .loop-test .taken),
     )
 
 returns : tie.Need-returns Inv-loop μ-loop
@@ -35,7 +36,7 @@ returns c =
     let l = c .before in
     let a = l .before .before .args in
     let ended : l .loop .i ≡ 10 = omega arith in
-    l .loop .inv .2 ∙ fill-end (writeAt slots (a .t) (a .p .0)) _ (l .loop .i) (c .loop-test .left) ∙ ap (listed (writeAt slots (a .t) (a .p .0)) 0) ended
+    l .loop .inv .2 ∙ fill-end (writeAt slots (a .t1) (a .p .0)) _ (l .loop .i) (c .loop-test .left) ∙ ap (listed (writeAt slots (a .t1) (a .p .0)) 0) ended
 
 pub all-writes-spec : {M : Type 1} → statement M
 all-writes-spec =

@@ -7,7 +7,8 @@ use borrow.Author.Needs.{needs}
 use borrow.Author.Tests.{eq-eqb, ne-eqb, le-leb, lt-leb}
 use Rattle.region.specs.Sound.{regionNo}
 use Rattle.table.specs.Numbers.{slots}
-use Rattle.table.specs.Table.{slotEntry}
+use Rattle.table.specs.declared.Table.{Table}
+use Rattle.table.specs.Table.{tableOf, slotEntry}
 use Rattle.table.proofs.NumbersLaws.{slotted-is, slotted-beyond}
 use Rattle.table.proofs.EntryLaws.{entry-within}
 use Rattle.table.proofs.LawfulLaws.{lawful-exactly}
@@ -15,23 +16,27 @@ use Rattle.sequence.specs.Sequence.{slotWrite, writeAt}
 use Rattle.sequence.proofs.write_at.Statement.{statement}
 use Rattle.sequence.proofs.write_at.Tie as tie
 
+-- ---- the table that is lent
+abbrev table : tie.Start → Table
+table s = tableOf (s .args .base .now) (s .args .size .now) (s .args .enabled .now) (s .args .writable .now)
+
 -- ---- the slot, and its entry
 made : (c : tie.After-s) → let a = c .before .before .before .before .args in (a .i - 1 < slots) × (c .s .given .0 .0 .0 ≡ a .i - 1)
 made c = slotted-is _ _ (sym (c .before .before .new .ensures) ∙ c .s .given .1)
 
-read : (c : tie.After-entry) → let k = c .before .before in let a = k .before .before .before .before .args in c .entry .result ≡ slotEntry slots (a .t) (a .p .0) (a .i - 1)
+read : (c : tie.After-entry-of) → let k = c .before .before in let a = k .before .before .before .before in c .entry-of .result ≡ slotEntry slots (table a) (a .args .p .0) (a .args .i - 1)
 read c =
     let k = c .before .before in
     let a = k .before .before .before .before in
     let m = made k in
-    c .entry .ensures ∙ entry-within slots (a .args .t) (a .args .p .0) (k .s .given .0 .0 .0) (a .pre .0) (rw (m .1) (m .0)) ∙ ap (slotEntry slots (a .args .t) (a .args .p .0)) (m .1)
+    c .entry-of .ensures ∙ entry-within slots (table a) (a .args .p .0) (k .s .given .0 .0 .0) (a .pre .0) (rw (m .1) (m .0)) ∙ ap (slotEntry slots (table a) (a .args .p .0)) (m .1)
 
 -- where it is enabled, it is sound
-asked : (c : tie.After-entry) → c .entry .result .enabled ≡ true → regionNo (c .entry .result .base) (c .entry .result .size) ≡ 0
+asked : (c : tie.After-entry-of) → c .entry-of .result .enabled ≡ true → regionNo (c .entry-of .result .base) (c .entry-of .result .size) ≡ 0
 asked c =
     let k = c .before .before in
     let a = k .before .before .before .before in
-    rw (read c) (lawful-exactly slots (a .args .t) .0 (a .pre .1) (a .args .p .0) (a .pre .0) .sound (a .args .i - 1) (made k .0))
+    rw (read c) (lawful-exactly slots (table a) .0 (a .pre .1) (a .args .p .0) (a .pre .0) .sound (a .args .i - 1) (made k .0))
 
 returns : tie.Need-returns
 unfolding writeAt
