@@ -259,17 +259,33 @@ fn clashes_at<'a>(
     ensures { λ r. ⌜ r ≡ clashAt slots (tableOf (now (base .entry)) (now (size .entry)) (now (enabled .entry)) (now (writable .entry))) (p .0) (s .0) ⌝ }
 {
     let e = peek(base, size, enabled, writable, p, s);
-    e.enabled
-        && lowest_slot(
-            base,
-            size,
-            enabled,
-            writable,
-            p,
-            s.0 + 1,
-            Question::Meets(range_of(e)),
-        )
-            < SLOTS
+    e.enabled && meets_from(base, size, enabled, writable, p, s.0 + 1, range_of(e))
+}
+
+// Does some enabled entry from a slot on meet this range? A loop of its own, since `lawful` asks it most.
+fn meets_from<'a>(
+    base: &'a [u32; 32],
+    size: &'a [u32; 32],
+    enabled: &'a [bool; 32],
+    writable: &'a [bool; 32],
+    p: Part,
+    from: u32,
+    r: Range,
+) -> bool
+    requires { ⌜ (p .0 < parts) × (from ≤ slots) ⌝ }
+    ensures { λ b. ⌜ b ≡ some (slotAsked slots (tableOf (now (base .entry)) (now (size .entry)) (now (enabled .entry)) (now (writable .entry))) (p .0) (Question.Meets r)) from slots ⌝ }
+{
+    let mut s = from;
+    while s < SLOTS {
+        if ask(
+            peek(base, size, enabled, writable, p, Slot::at(s)),
+            Question::Meets(r),
+        ) {
+            return true;
+        }
+        s += 1;
+    }
+    false
 }
 
 // The lowest slot from `from` on whose entry answers yes; 8 where none does.

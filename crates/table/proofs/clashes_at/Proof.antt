@@ -10,7 +10,7 @@ returns : tie.Need-returns
 unfolding clashAt
 returns c =
     let e = c .before .before .before .before in
-    rw (sym (e .peek .ensures), c .before .before .before .if1 .taken, c .lowest-slot .ensures, c .before .range-of .ensures)
+    rw (sym (e .peek .ensures), c .before .before .before .if1 .taken, c .meets-from .ensures, c .before .range-of .ensures)
 
 returns-2 : tie.Need-returns-2
 unfolding clashAt
