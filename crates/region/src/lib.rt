@@ -2,7 +2,9 @@
 // From mpu.rs. Every routine takes any input and refuses by the numbers of the paper.
 ghost use mathlib.Core.Path.{_≡_};
 ghost use Prim.Native.Nat.{_*_, _+_, _^_, _<_, _≤_};
+ghost use lib.Dec.{ltb};
 ghost use lib.ListN.{length};
+ghost use Rattle.laws.specs.Pick.{pick};
 ghost use Rattle.laws.specs.Power.{isPow2};
 ghost use Rattle.region.specs.Sound.{regionNo};
 ghost use Rattle.region.specs.Overlap.{overlaps, overlapAnswer};
@@ -13,6 +15,9 @@ pub const MIN_REGION_SIZE: u32 = 32;
 const WORDS_EACH: usize = 3;
 
 const LAST_BYTE: u64 = 4294967295;
+
+// Above the end of every range.
+const ENDS: u64 = 8589934592;
 
 pub struct Range {
     pub base: u32,
@@ -155,11 +160,20 @@ fn record_at(words: &[u32], i: usize) -> Range
     }
 }
 
-// The formula of the paper alone, in whole numbers: no sum wraps, nothing is refused.
+// The formula of the paper alone, in whole numbers: no sum wraps, nothing is refused. Each test of it is a number, 0 where it holds and 1 where it fails,
+// so that the two are one test: which of them fails is chance, and a wrong guess at a branch costs more than a sum.
 pub fn ranges_meet(a: Range, b: Range) -> bool
     ensures { λ r. ⌜ r ≡ overlaps a b ⌝ }
 {
-    (a.base as u64) < end_of(b) && (b.base as u64) < end_of(a)
+    not_below(a.base, end_of(b)) + not_below(b.base, end_of(a)) == 0
+}
+
+// 0 where the base is below the end, 1 where it is not.
+fn not_below(base: u32, end: u64) -> u64
+    requires { ⌜ end < 2 ^ 33 ⌝ }
+    ensures { λ r. ⌜ (r ≤ 1) × (r ≡ pick (ltb base end) 0 1) ⌝ }
+{
+    (ENDS + (base as u64) - end) / ENDS
 }
 
 fn end_of(a: Range) -> u64
