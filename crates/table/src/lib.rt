@@ -185,7 +185,7 @@ impl Table {
     }
 }
 
-// The same of a table whose four arrays are lent.
+// The entry of a slot, of a table whose four arrays are lent.
 pub fn entry_of<'a>(
     base: &'a [u32; 32],
     size: &'a [u32; 32],
