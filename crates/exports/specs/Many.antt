@@ -1,6 +1,7 @@
 -- What the exported routines answer: the list of single answers.
 --   decisionAt ms ws i     == the number of the decision of the MPU ms about access i of ws
 --   tableAfter ws i        == the table after the first i requests, from the empty one on
+--   tableBy ws             == the table after all of them that are whole
 --   addedAt ws i           == the builder's answer to request i
 --   switchAfter t m ps i   == the last of i switches, each going on from the MPU of the one before; at first, one that wrote nothing
 --   switchedAt t m ps i    == the number of switch i
@@ -32,9 +33,9 @@ tableAfter ws (suc i) = tryAdd slots (tableAfter ws i) (partAt ws i) (requestAt 
 abbrev pub addedAt : List ℕ → ℕ → Added
 addedAt ws i = tryAdd slots (tableAfter ws i) (partAt ws i) (requestAt ws i)
 
--- the table of all the requests that are whole
-abbrev pub tableOf : List ℕ → Table
-tableOf ws = tableAfter ws (length ws / 4)
+-- the table after all the requests that are whole
+abbrev pub tableBy : List ℕ → Table
+tableBy ws = tableAfter ws (length ws / 4)
 
 unfoldable pub switchAfter : Table → Mpu → List ℕ → ℕ → Switch
 switchAfter t m ps zero = fresh slots m (noLog slots)

@@ -17,7 +17,7 @@ ghost use Rattle.laws.specs.Listed.{listed};
 ghost use Rattle.table.specs.Numbers.{slots};
 ghost use Rattle.switch.specs.Switch.{noLog, fresh};
 ghost use Rattle.exports.specs.Words.{wordAt, mpuOf, accessAt, kindOf, answerNo, requestAt, endOf, packed, judgedNo, switchWord};
-ghost use Rattle.exports.specs.Many.{decisionAt, addedAt, tableOf, switchAfter, switchedAt, foundAt};
+ghost use Rattle.exports.specs.Many.{decisionAt, addedAt, tableBy, switchAfter, switchedAt, foundAt};
 
 // The words of a request: partition, base, size, and 0 for read-only.
 const REQUEST: usize = 4;
@@ -73,8 +73,8 @@ pub extern "C" fn switch_many(
     numbers: &mut [u32],
     last: &mut [u32],
 )
-    ensures numbers { λ _. ⌜ now (numbers .exit) ≡ listed (λ i. switchedAt (tableOf (now (requests .entry))) (mpuOf (now (mpu .entry))) (now (parts .entry)) i .no) 0 (length (now (numbers .entry))) ⌝ }
-    ensures last { λ _. ⌜ now (last .exit) ≡ listed (switchWord (switchAfter (tableOf (now (requests .entry))) (mpuOf (now (mpu .entry))) (now (parts .entry)) (length (now (numbers .entry))))) 0 (length (now (last .entry))) ⌝ }
+    ensures numbers { λ _. ⌜ now (numbers .exit) ≡ listed (λ i. switchedAt (tableBy (now (requests .entry))) (mpuOf (now (mpu .entry))) (now (parts .entry)) i .no) 0 (length (now (numbers .entry))) ⌝ }
+    ensures last { λ _. ⌜ now (last .exit) ≡ listed (switchWord (switchAfter (tableBy (now (requests .entry))) (mpuOf (now (mpu .entry))) (now (parts .entry)) (length (now (numbers .entry))))) 0 (length (now (last .entry))) ⌝ }
 {
     let s = switch_each(mpu_of(mpu), table_of(requests), parts, numbers);
     put_switch(s, last);
@@ -168,7 +168,7 @@ fn request_at(requests: &[u32], i: usize) -> Request
 
 // The table that the requests build, each refused one being passed over.
 fn table_of(requests: &[u32]) -> Table
-    ensures { λ r. ⌜ r ≡ tableOf (now (requests .entry)) ⌝ }
+    ensures { λ r. ⌜ r ≡ tableBy (now (requests .entry)) ⌝ }
 {
     let mut t = Table::new();
     let mut i = 0;
