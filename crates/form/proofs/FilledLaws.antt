@@ -67,7 +67,7 @@ module _ (f : Formed) (v p : ℕ) where
   more m =
       pick m (record { read = f .read; next = p; count = f .count + 1; values = set (f .values) (f .count) v }) (record { read = f .read; next = p; count = f .count; values = f .values })
 
-  kept-next : kept f v p .next ≡ p
+  pub kept-next : kept f v p .next ≡ p
   unfolding kept
   kept-next = by (ltb (f .count) most)
     where
@@ -75,7 +75,15 @@ module _ (f : Formed) (v p : ℕ) where
       by true = refl
       by false = refl
 
-  kept-all : (ws : List ℕ) → keptAll (kept f v p .count) (kept f v p .values) ws ≡ keptAll (f .count) (f .values) (v ∷ ws)
+  pub kept-read : kept f v p .read ≡ f .read
+  unfolding kept
+  kept-read = by (ltb (f .count) most)
+    where
+      by : (m : Bool) → more m .read ≡ f .read
+      by true = refl
+      by false = refl
+
+  pub kept-all : (ws : List ℕ) → keptAll (kept f v p .count) (kept f v p .values) ws ≡ keptAll (f .count) (f .values) (v ∷ ws)
   unfolding kept keptAll
   kept-all ws = by (ltb (f .count) most) refl
     where
@@ -98,27 +106,27 @@ met bytes f c = by (takesNumber c) (valueAt c bytes (f .next)) (standsAt bytes (
     by false n false t _ s e = never e
 
 -- ---- the places of a form, one byte of it met
+pub filled-number : (c : ℕ) (form : List ℕ) (w : ℕ) (ws : List ℕ) → takesNumber c ≡ true → filled (c ∷ form) (w ∷ ws) ≡ digits w ++ filled form ws
+unfolding filled
+filled-number c form w ws t = rw t
+
+pub filled-itself : (c : ℕ) (form ws : List ℕ) → takesNumber c ≡ false → filled (c ∷ form) ws ≡ c ∷ filled form ws
+unfolding filled
+filled-itself c form [] t = refl
+filled-itself c form (w ∷ ws) t = rw t
+
 module _ (bytes form : List ℕ) (f g h : Formed) (c : ℕ) (rest : Means bytes form g h) where
-  filled-number : (w : ℕ) → takesNumber c ≡ true → filled (c ∷ form) (w ∷ rest .numbers) ≡ digits w ++ filled form (rest .numbers)
-  unfolding filled
-  filled-number w t = rw t
-
-  filled-itself : (ws : List ℕ) → takesNumber c ≡ false → filled (c ∷ form) ws ≡ c ∷ filled form ws
-  unfolding filled
-  filled-itself [] t = refl
-  filled-itself (w ∷ ws) t = rw t
-
   means-next : Met bytes f c g → Means bytes (c ∷ form) f h
   means-next (number w t here keeps) =
       record {
         numbers = w ∷ rest .numbers;
-        text = rw (filled-number w t) (stands-join bytes (f .next) (digits w) (filled form (rest .numbers)) (h .next) here (rest .text));
+        text = rw (filled-number c form w (rest .numbers) t) (stands-join bytes (f .next) (digits w) (filled form (rest .numbers)) (h .next) here (rest .text));
         values = rest .values ∙ keeps (rest .numbers);
       }
   means-next (itself t here keeps) =
       record {
         numbers = rest .numbers;
-        text = rw (filled-itself (rest .numbers) t) (stands-join bytes (f .next) (c ∷ []) (filled form (rest .numbers)) (h .next) here (rest .text));
+        text = rw (filled-itself c form (rest .numbers) t) (stands-join bytes (f .next) (c ∷ []) (filled form (rest .numbers)) (h .next) here (rest .text));
         values = rest .values ∙ keeps (rest .numbers);
       }
 

@@ -1,3 +1,4 @@
+pub mod BackLaws
 pub mod Determined
 pub mod FilledLaws
 pub mod FormLaws
