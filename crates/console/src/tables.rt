@@ -1,15 +1,12 @@
 // The table: what it covers and holds is told; the builder and a hand change it.
 use crate::print;
 use form::read_whole;
+use table::CELLS;
 use table::Part;
 use table::Request;
+use table::SLOTS;
 use table::Slot;
 use table::Table;
-
-// The places of a table, and of one partition.
-const PLACES: u32 = 32;
-
-const SLOTS: u32 = 8;
 
 pub struct Changed {
     pub known: bool,
@@ -52,7 +49,7 @@ fn entry(text: &[u8], t: Table) -> bool {
         return false;
     }
     let at = f.values[0];
-    if PLACES <= at {
+    if CELLS <= at as usize {
         return false;
     }
     let e = t.entry(Part(at / SLOTS), Slot(at % SLOTS));
@@ -89,10 +86,10 @@ fn hand(text: &[u8], t: Table) -> Changed {
     if !f.read {
         return unknown(t);
     }
-    if PLACES <= f.values[0] {
+    let at = f.values[0] as usize;
+    if CELLS <= at {
         return unknown(t);
     }
-    let at = f.values[0] as usize;
     let mut n = t;
     n.enabled[at] = f.values[1] == 1;
     n.base[at] = f.values[2];

@@ -1,6 +1,7 @@
 // The ten register writes that switch the MPU to a partition. From mpu_switch.rs.
 use device::Write;
 use fields::Attributes;
+use table::CELLS;
 use table::Entry;
 use table::Part;
 use table::Parted;
@@ -70,10 +71,10 @@ fn all_writes(t: Table, p: Part) -> [Write; WRITES]
 
 // Lent the table's four arrays, since a table by value would be copied for each write.
 fn write_at<'a>(
-    base: &'a [u32; 32],
-    size: &'a [u32; 32],
-    enabled: &'a [bool; 32],
-    writable: &'a [bool; 32],
+    base: &'a [u32; CELLS],
+    size: &'a [u32; CELLS],
+    enabled: &'a [bool; CELLS],
+    writable: &'a [bool; CELLS],
     p: Part,
     i: u32,
 ) -> Write

@@ -1,6 +1,7 @@
 // The table: what each partition is granted. The empty table, the builder, covering. From mpu_switch.rs.
 mod numbers;
 
+pub use numbers::CELLS;
 use numbers::PARTS;
 pub use numbers::Part;
 pub use numbers::Parted;
@@ -23,10 +24,10 @@ ghost use Rattle.table.specs.Builder.{tryAdd};
 
 // The four arrays of the source, flat: slot s of partition p lies at 8 x p + s.
 pub struct Table {
-    pub base: [u32; 32],
-    pub size: [u32; 32],
-    pub enabled: [bool; 32],
-    pub writable: [bool; 32],
+    pub base: [u32; CELLS],
+    pub size: [u32; CELLS],
+    pub enabled: [bool; CELLS],
+    pub writable: [bool; CELLS],
 }
 
 // What stands at one place of the table.
@@ -70,10 +71,10 @@ impl Table {
         ensures { λ r. ⌜ r ≡ emptyTable slots ⌝ }
     {
         Table {
-            base: [0; 32],
-            size: [0; 32],
-            enabled: [false; 32],
-            writable: [false; 32],
+            base: [0; CELLS],
+            size: [0; CELLS],
+            enabled: [false; CELLS],
+            writable: [false; CELLS],
         }
     }
 
@@ -187,10 +188,10 @@ impl Table {
 
 // The entry of a slot, of a table whose four arrays are lent.
 pub fn entry_of<'a>(
-    base: &'a [u32; 32],
-    size: &'a [u32; 32],
-    enabled: &'a [bool; 32],
-    writable: &'a [bool; 32],
+    base: &'a [u32; CELLS],
+    size: &'a [u32; CELLS],
+    enabled: &'a [bool; CELLS],
+    writable: &'a [bool; CELLS],
     p: Part,
     s: Slot,
 ) -> Entry
@@ -211,10 +212,10 @@ pub fn entry_of<'a>(
 
 // What follows is lent the four arrays: a table by value would be copied, 320 bytes a call.
 fn lawful_part<'a>(
-    base: &'a [u32; 32],
-    size: &'a [u32; 32],
-    enabled: &'a [bool; 32],
-    writable: &'a [bool; 32],
+    base: &'a [u32; CELLS],
+    size: &'a [u32; CELLS],
+    enabled: &'a [bool; CELLS],
+    writable: &'a [bool; CELLS],
     p: Part,
 ) -> bool
     requires { ⌜ p .0 < parts ⌝ }
@@ -228,10 +229,10 @@ fn lawful_part<'a>(
 
 // Does some enabled entry of the partition meet a later one?
 fn clashes<'a>(
-    base: &'a [u32; 32],
-    size: &'a [u32; 32],
-    enabled: &'a [bool; 32],
-    writable: &'a [bool; 32],
+    base: &'a [u32; CELLS],
+    size: &'a [u32; CELLS],
+    enabled: &'a [bool; CELLS],
+    writable: &'a [bool; CELLS],
     p: Part,
 ) -> bool
     requires { ⌜ p .0 < parts ⌝ }
@@ -248,10 +249,10 @@ fn clashes<'a>(
 }
 
 fn clashes_at<'a>(
-    base: &'a [u32; 32],
-    size: &'a [u32; 32],
-    enabled: &'a [bool; 32],
-    writable: &'a [bool; 32],
+    base: &'a [u32; CELLS],
+    size: &'a [u32; CELLS],
+    enabled: &'a [bool; CELLS],
+    writable: &'a [bool; CELLS],
     p: Part,
     s: Slot,
 ) -> bool
@@ -264,10 +265,10 @@ fn clashes_at<'a>(
 
 // Does some enabled entry from a slot on meet this range? A loop of its own, since `lawful` asks it most.
 fn meets_from<'a>(
-    base: &'a [u32; 32],
-    size: &'a [u32; 32],
-    enabled: &'a [bool; 32],
-    writable: &'a [bool; 32],
+    base: &'a [u32; CELLS],
+    size: &'a [u32; CELLS],
+    enabled: &'a [bool; CELLS],
+    writable: &'a [bool; CELLS],
     p: Part,
     from: u32,
     r: Range,
@@ -290,10 +291,10 @@ fn meets_from<'a>(
 
 // The lowest slot from `from` on whose entry answers yes; 8 where none does.
 fn lowest_slot<'a>(
-    base: &'a [u32; 32],
-    size: &'a [u32; 32],
-    enabled: &'a [bool; 32],
-    writable: &'a [bool; 32],
+    base: &'a [u32; CELLS],
+    size: &'a [u32; CELLS],
+    enabled: &'a [bool; CELLS],
+    writable: &'a [bool; CELLS],
     p: Part,
     from: u32,
     what: Question,
@@ -312,10 +313,10 @@ fn lowest_slot<'a>(
 }
 
 fn peek<'a>(
-    base: &'a [u32; 32],
-    size: &'a [u32; 32],
-    enabled: &'a [bool; 32],
-    writable: &'a [bool; 32],
+    base: &'a [u32; CELLS],
+    size: &'a [u32; CELLS],
+    enabled: &'a [bool; CELLS],
+    writable: &'a [bool; CELLS],
     p: Part,
     s: Slot,
 ) -> Entry

@@ -7,6 +7,9 @@ pub const PARTS: u32 = 4;
 
 pub const SLOTS: u32 = 8;
 
+// The places of a table: a slot of each partition.
+pub const CELLS: usize = 32;
+
 pub struct Part(pub u32);
 
 pub struct Slot(pub u32);
