@@ -1,4 +1,5 @@
 pub mod DataLaws
+pub mod GivenLaws
 pub mod Determined
 pub mod LoanLaws
 pub mod ScanLaws

@@ -1,16 +1,12 @@
 -- A list of region records, lent as records and not as flat words. It is judged by the definition that judges the words; attr is never read.
 --   rangeAt ys i      == record i of ys, without its attr
 --   judgedOf ys n     == what is found of the first n of ys
---   givenOf ys have n == the same where only the first `have` of ys are given
 --   words ys          == the same list as flat words
 use mathlib.Core.List.{List, [], _∷_}
 use Prim.Native.Nat.{ℕ}
-use lib.Dec.{ltb}
 use lib.ListN.{length, getD}
-use Rattle.laws.specs.Pick.{pick}
 use Rattle.region.specs.declared.Range.{Range}
 use Rattle.region.specs.declared.Judged.{Judged}
-use Rattle.region.specs.declared.Judged.the-variants.{Short}
 use Rattle.region.specs.List.{judged}
 use Rattle.lent.specs.declared.MpuRegion.{MpuRegion}
 
@@ -25,9 +21,6 @@ rangeAt ys i = rangeOf (getD ys i noRecord)
 
 abbrev pub judgedOf : List MpuRegion → ℕ → Judged
 judgedOf ys n = judged (rangeAt ys) (length ys) n
-
-abbrev pub givenOf : List MpuRegion → ℕ → ℕ → Judged
-givenOf ys have n = pick (ltb have n) Short (judgedOf ys n)
 
 abbrev pub words : List MpuRegion → List ℕ
 words [] = []

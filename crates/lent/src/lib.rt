@@ -6,9 +6,10 @@ use region::Judged;
 use region::Range;
 ghost use mathlib.Core.Path.{_≡_};
 ghost use Prim.Native.Nat.{_<_, _^_};
+ghost use lib.ListN.{take};
 ghost use Rattle.device.specs.Registers.{slotCount};
 ghost use Rattle.device.specs.RegisterWrite.{writeRegister};
-ghost use Rattle.lent.specs.Records.{judgedOf, givenOf};
+ghost use Rattle.lent.specs.Records.{judgedOf};
 ghost use Rattle.lent.specs.Scan.{finished, askSound, askPairs, askBeside, begun, turned, sounded, taken, compared};
 
 // How many records a list passed by value has.
@@ -72,7 +73,7 @@ pub fn validate_held(rs: [MpuRegion; HELD], count: u32) -> Judged
 
 // The same question where only the first `have` of the records are given.
 pub fn validate_given(rs: [MpuRegion; HELD], have: usize, count: u32) -> Judged
-    ensures { λ r. ⌜ r ≡ givenOf rs have count ⌝ }
+    ensures { λ r. ⌜ r ≡ judgedOf (take have rs) count ⌝ }
 {
     if have < count as usize {
         return Judged::Short;
