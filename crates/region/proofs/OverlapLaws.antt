@@ -1,7 +1,7 @@
 -- What overlap means. Both halves of the formula hold at once: then the higher of the two bases lies in both ranges, unless one is empty; and a
 -- byte in both gives both halves. Assumes nothing.
 use mathlib.Core.Path.{_≡_, refl, sym, _∙_}
-use mathlib.Core.Bool.{true, false, _&&_, _||_, and-comm, and-false, or-comm, true≢false}
+use mathlib.Core.Bool.{true, false, _||_, and-comm, and-false, or-comm, true≢false}
 use mathlib.Core.List.{[], _∷_}
 use mathlib.Core.Logic.{_↔_, _⊎_, inl, inr, ⊎-elim}
 use Prim.Native.Nat.{ℕ, _+_, _≤_, _<_, max}

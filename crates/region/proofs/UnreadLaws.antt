@@ -2,7 +2,7 @@
 -- records, so it is the same of two lists that agree there. Assumes nothing.
 use mathlib.Core.Path.{_≡_, refl, sym, _∙_, ap, ap₂}
 use Prim.Native.Nat.{ℕ, _+_, _*_, _≤_, _<_, zero-le}
-use native.Mathlib.Nat.{lt-of-lt-of-le, not-suc-le-zero, not-le-of-lt}
+use native.Mathlib.Nat.{not-suc-le-zero, not-le-of-lt}
 use native.Mathlib.Omega.{arith}
 use mathlib.Core.List.{List}
 use lib.ListN.{getD}

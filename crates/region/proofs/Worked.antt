@@ -7,7 +7,6 @@ use lib.Dec.{eqb}
 use Rattle.laws.specs.Cases.{holds}
 use Rattle.laws.specs.Search.{first, lowest}
 use Rattle.laws.specs.Power.{log2, isPow2}
-use Rattle.region.specs.declared.Overlap.{Overlap}
 use Rattle.region.specs.Sound.{soundness, regionNo}
 use Rattle.region.specs.Overlap.{overlaps, overlapAnswer}
 use Rattle.region.specs.List.{recordAt, records, pairOf, judged, numberOf, placesOf}
