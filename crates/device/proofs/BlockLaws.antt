@@ -32,7 +32,7 @@ module _ (k a b : ℕ) where
 
 -- the first byte of a slot's block
 abbrev pub start : Pair → ℕ
-start p = p .rbar / 2 ^ (sizeField p + 1) * 2 ^ (sizeField p + 1)
+start p = p .rbar / 2 ^ (p .rasr / 2 % 32 + 1) * 2 ^ (p .rasr / 2 % 32 + 1)
 
 module _ (x : ℕ) (p : Pair) where
   abbrev quotients : Type 0
@@ -42,15 +42,16 @@ module _ (x : ℕ) (p : Pair) where
   unfolding matches
   matches-quotients = Iff·trans (and-exactly _ _) (Iff·and Iff·rfl (eq-exactly _ _))
 
-  pub matches-exactly : (matches x p ≡ true) ↔ ((enabled p ≡ true) × Within (start p) (sizeField p + 1) x)
-  matches-exactly = Iff·trans matches-quotients (Iff·and Iff·rfl (same-block (sizeField p + 1) x (p .rbar)))
+  -- by the bits: RASR bit 0 is set, and the byte is one of the 2^(SIZE+1) of the block, SIZE being bits 5:1
+  pub matches-exactly : (matches x p ≡ true) ↔ ((p .rasr % 2 ≡ 1) × Within (start p) (p .rasr / 2 % 32 + 1) x)
+  matches-exactly = Iff·trans matches-quotients (Iff·and (eq-exactly _ _) (same-block (p .rasr / 2 % 32 + 1) x (p .rbar)))
 
   -- the block of a slot whose RBAR is a multiple of its size starts there
   pub matches-aligned : p .rbar % 2 ^ (sizeField p + 1) ≡ 0 → (matches x p ≡ true) ↔ ((enabled p ≡ true) × Within (p .rbar) (sizeField p + 1) x)
   matches-aligned e = Iff·trans matches-quotients (Iff·and Iff·rfl (aligned-block (sizeField p + 1) x (p .rbar) e))
 
 -- SIZE 31 matches all
-pub matches-all : (x : ℕ) (p : Pair) → x < 2 ^ 32 → p .rbar < 2 ^ 32 → enabled p ≡ true → sizeField p ≡ 31 → matches x p ≡ true
+pub matches-all : (x : ℕ) (p : Pair) → x < 2 ^ 32 → p .rbar < 2 ^ 32 → p .rasr % 2 ≡ 1 → p .rasr / 2 % 32 ≡ 31 → matches x p ≡ true
 unfolding matches
 matches-all x p h k e s =
     let u : x / 2 ^ 32 ≡ 0 = div-eq-of-lt h in

@@ -8,13 +8,14 @@ use native.Mathlib.Omega.{arith}
 use Rattle.laws.specs.Search.{Greatest}
 use Rattle.laws.proofs.SearchLaws.{highest-greatest, greatest-one}
 use Rattle.device.specs.declared.Pair.{Pair}
-use Rattle.device.specs.Decision.{matchesAt, deciding}
+use Rattle.device.specs.Registers.{slotAt}
+use Rattle.device.specs.Decision.{matches, matchesAt, deciding}
 
 -- slot k of n is the highest that matches the byte x
 pub record Decides (ss : List Pair) (x n k : ℕ) : Type 0 where
   pub within : k < n
-  pub matching : matchesAt ss x k ≡ true
-  pub none : (j : ℕ) → k < j → j < n → matchesAt ss x j ≡ false
+  pub matching : matches x (slotAt ss k) ≡ true
+  pub none : (j : ℕ) → k < j → j < n → matches x (slotAt ss j) ≡ false
 
 module _ (ss : List Pair) (x n : ℕ) where
   found : Greatest (matchesAt ss x) n (deciding n ss x)
@@ -32,7 +33,7 @@ module _ (ss : List Pair) (x n : ℕ) where
       decides : Greatest (matchesAt ss x) n (suc k) → Decides ss x n k
       decides g = record { within = g .within; matching = rw less at (g .passes (omega arith)); none = g .none }
 
-  pub undecided-exactly : ((k : ℕ) → k < n → matchesAt ss x k ≡ false) ↔ (deciding n ss x ≡ 0)
+  pub undecided-exactly : ((k : ℕ) → k < n → matches x (slotAt ss k) ≡ false) ↔ (deciding n ss x ≡ 0)
   undecided-exactly = (
     λ h. greatest-one (matchesAt ss x) found (record { within = zero-le; passes = λ l. absurd (omega arith); none = λ k l u. h k u }),
     λ e k l. found .none k (omega arith) l,

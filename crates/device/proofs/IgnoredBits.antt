@@ -7,7 +7,7 @@ use mathlib.Core.Logic.{inl}
 use Prim.Native.Nat.{ℕ, zero, suc, _+_, _-_, _/_, _%_, _^_, _≤_, _<_, zero-le}
 use native.Mathlib.Nat.{le-refl}
 use native.Mathlib.Omega.{arith}
-use borrow.Author.Tests.{ltb-true, ltb-false, ne-eqb}
+use borrow.Author.Tests.{ltb-true, ltb-false, eqb-true, ne-eqb}
 use lib.Dec.{ltb, eqb}
 use lib.Pow.{shr-shr}
 use Rattle.laws.specs.Pick.{pick}
@@ -18,7 +18,7 @@ use Rattle.device.specs.declared.Pair.{Pair}
 use Rattle.device.specs.declared.Mpu.{Mpu}
 use Rattle.device.specs.declared.Access.{Access}
 use Rattle.device.specs.declared.Answer.the-variants.{Undefined}
-use Rattle.device.specs.Registers.{slotAt, enabled, sizeField, subregions, apField}
+use Rattle.device.specs.Registers.{slotAt, enabled, sizeField, apField}
 use Rattle.device.specs.Permission.{rowAnswer}
 use Rattle.device.specs.Decision.{leastSize, bad, badAt, matches, matchesAt, deciding, unmatched, judged, decision}
 use Rattle.device.proofs.BlockLaws.{matches-exactly}
@@ -26,15 +26,15 @@ use Rattle.device.proofs.JudgedLaws.{bad-exactly}
 
 -- the bits of an enabled slot that matter: RASR 5:1, 15:8 and 26:24, RBAR 31:5
 pub record Agree (p q : Pair) : Type 0 where
-  pub size : sizeField p ≡ sizeField q
-  pub subregion : subregions p ≡ subregions q
-  pub ap : apField p ≡ apField q
+  pub size : p .rasr / 2 % 32 ≡ q .rasr / 2 % 32
+  pub subregion : p .rasr / 256 % 256 ≡ q .rasr / 256 % 256
+  pub ap : p .rasr / 16777216 % 8 ≡ q .rasr / 16777216 % 8
   pub base : p .rbar / 32 ≡ q .rbar / 32
 
 -- RASR bit 0 agrees, and the other bits where it is set
 pub record Alike (p q : Pair) : Type 0 where
   pub enable : p .rasr % 2 ≡ q .rasr % 2
-  pub fields : enabled p ≡ true → Agree p q
+  pub fields : p .rasr % 2 ≡ 1 → Agree p q
 
 module _ {p q : Pair} (s : Alike p q) where
   bad-alike : bad p ≡ bad q
@@ -42,7 +42,7 @@ module _ {p q : Pair} (s : Alike p q) where
   bad-alike = by (enabled p) refl
     where
       by : (b : Bool) → enabled p ≡ b → bad p ≡ bad q
-      by true e = rw (← s .enable, s .fields e .size, s .fields e .subregion)
+      by true e = let f = s .fields (eqb-true _ _ e) in rw (← s .enable, f .size, f .subregion)
       by false e = rw (← s .enable, e)
 
   matches-alike : (x : ℕ) → bad p ≡ false → matches x p ≡ matches x q
@@ -55,10 +55,11 @@ module _ {p q : Pair} (s : Alike p q) where
 
       by : (b l : Bool) → enabled p ≡ b → ltb (sizeField p) leastSize ≡ l → matches x p ≡ matches x q
       by false l e f = rw (← s .enable, e)
-      by true true e f = absurd (true≢false (sym (bad-exactly p .1 (e, inl (ltb-true _ _ f))) ∙ sound))
+      by true true e f = absurd (true≢false (sym (bad-exactly p .1 (eqb-true _ _ e, inl (ltb-true _ _ f))) ∙ sound))
       by true false e f =
           let h : leastSize ≤ sizeField p = ltb-false _ _ f in
-          rw (← s .enable, ← s .fields e .size, part (p .rbar) h, part (q .rbar) h, s .fields e .base)
+          let same = s .fields (eqb-true _ _ e) in
+          rw (← s .enable, ← same .size, part (p .rbar) h, part (q .rbar) h, same .base)
 
 -- ---- searches whose tests agree below n
 module _ {f g : ℕ → Bool} where

@@ -15,22 +15,22 @@ use Rattle.device.specs.declared.Mpu.{Mpu}
 use Rattle.device.specs.declared.Access.{Access}
 use Rattle.device.specs.declared.Answer.{Answer}
 use Rattle.device.specs.declared.Answer.the-variants.{Undefined, Permitted, Denied}
-use Rattle.device.specs.Registers.{slotAt, enabled, sizeField, subregions, apField, enables, privDefEna, allowed}
+use Rattle.device.specs.Registers.{slotAt, sizeField, subregions, enables, privDefEna, allowed}
 use Rattle.device.specs.Permission.{answered, rowAnswer}
-use Rattle.device.specs.Decision.{leastSize, privateBus, bad, badAt, matchesAt, deciding, unmatched, judged, decision}
+use Rattle.device.specs.Decision.{leastSize, privateBus, bad, badAt, matches, deciding, unmatched, judged, decision}
 use Rattle.laws.proofs.TestLaws.{and-exactly, or-exactly, not-exactly, lt-exactly, eq-exactly, ne-exactly, pick-same}
 use Rattle.device.proofs.DecidingLaws.{Decides, decides-exactly, undecided-exactly}
 
 -- a slot is bad exactly if it is enabled, with SIZE below 4 or bits 15:8 not zero
-pub bad-exactly : (p : Pair) → (bad p ≡ true) ↔ ((enabled p ≡ true) × ((sizeField p < leastSize) ⊎ (¬ (subregions p ≡ 0))))
+pub bad-exactly : (p : Pair) → (bad p ≡ true) ↔ ((p .rasr % 2 ≡ 1) × ((p .rasr / 2 % 32 < 4) ⊎ (¬ (p .rasr / 256 % 256 ≡ 0))))
 unfolding bad
-bad-exactly p = Iff·trans (and-exactly _ _) (λ h. (h .0, size (or-exactly _ _ .0 (h .1))), λ h. (h .0, or-exactly _ _ .1 (test (h .1))))
+bad-exactly p = Iff·trans (and-exactly _ _) (λ h. (eq-exactly _ _ .0 (h .0), size (or-exactly _ _ .0 (h .1))), λ h. (eq-exactly _ _ .1 (h .0), or-exactly _ _ .1 (test (h .1))))
   where
-    size : (ltb (sizeField p) leastSize ≡ true) ⊎ (not (eqb (subregions p) 0) ≡ true) → (sizeField p < leastSize) ⊎ (¬ (subregions p ≡ 0))
+    size : (ltb (sizeField p) leastSize ≡ true) ⊎ (not (eqb (subregions p) 0) ≡ true) → (p .rasr / 2 % 32 < 4) ⊎ (¬ (p .rasr / 256 % 256 ≡ 0))
     size (inl e) = inl (lt-exactly _ _ .0 e)
     size (inr e) = inr (ne-exactly _ _ .0 (not-exactly _ .0 e))
 
-    test : (sizeField p < leastSize) ⊎ (¬ (subregions p ≡ 0)) → (ltb (sizeField p) leastSize ≡ true) ⊎ (not (eqb (subregions p) 0) ≡ true)
+    test : (p .rasr / 2 % 32 < 4) ⊎ (¬ (p .rasr / 256 % 256 ≡ 0)) → (ltb (sizeField p) leastSize ≡ true) ⊎ (not (eqb (subregions p) 0) ≡ true)
     test (inl h) = inl (lt-exactly _ _ .1 h)
     test (inr h) = inr (not-exactly _ .1 (ne-exactly _ _ .1 h))
 
@@ -55,7 +55,7 @@ module _ (c : ℕ) (p : Bool) where
 
 module _ (n : ℕ) (m : Mpu) (a : Access) where
   abbrev row : ℕ → Answer
-  row k = rowAnswer (apField (slotAt (m .slots) k)) (a .privileged) (a .kind)
+  row k = rowAnswer (slotAt (m .slots) k .rasr / 16777216 % 8) (a .privileged) (a .kind)
 
   judged-row : {k : ℕ} → Decides (m .slots) (a .address) n k → judged n m a ≡ row k
   unfolding judged
@@ -74,10 +74,10 @@ module _ (n : ℕ) (m : Mpu) (a : Access) where
     searched = rw (held, out, on)
 
     -- rule 3: a bad slot, matching or not
-    pub bad-undefined : (k : ℕ) → k < n → badAt (m .slots) k ≡ true → decision n m a ≡ Undefined
+    pub bad-undefined : (k : ℕ) → k < n → bad (slotAt (m .slots) k) ≡ true → decision n m a ≡ Undefined
     bad-undefined k h e = rw (searched, some-exactly (badAt (m .slots)) zero-le .1 (k, zero-le, h, e))
 
-    module _ (sound : (k : ℕ) → k < n → badAt (m .slots) k ≡ false) where
+    module _ (sound : (k : ℕ) → k < n → bad (slotAt (m .slots) k) ≡ false) where
       reached : decision n m a ≡ judged n m a
       reached = rw (searched, none-exactly (badAt (m .slots)) zero-le .1 (λ k l h. sound k h))
 
@@ -86,12 +86,12 @@ module _ (n : ℕ) (m : Mpu) (a : Access) where
       decided-by-row d = reached ∙ judged-row d
 
       -- rule 5: no match
-      pub decided-unmatched : ((k : ℕ) → k < n → matchesAt (m .slots) (a .address) k ≡ false) → decision n m a ≡ unmatched (m .control) (a .privileged)
+      pub decided-unmatched : ((k : ℕ) → k < n → matches (a .address) (slotAt (m .slots) k) ≡ false) → decision n m a ≡ unmatched (m .control) (a .privileged)
       decided-unmatched h = reached ∙ judged-unmatched (undecided-exactly (m .slots) (a .address) n .0 h)
 
     -- undefined exactly if some enabled slot is bad, or the deciding row is
     abbrev BadSlot : Type 0
-    BadSlot = (k : ℕ) × (k < n) × (badAt (m .slots) k ≡ true)
+    BadSlot = (k : ℕ) × (k < n) × (bad (slotAt (m .slots) k) ≡ true)
 
     abbrev BadRow : Type 0
     BadRow = (k : ℕ) × Decides (m .slots) (a .address) n k × (row k ≡ Undefined)

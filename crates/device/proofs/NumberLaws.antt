@@ -1,19 +1,21 @@
--- The number of an answer is the one due: only the first rule refuses, and no other answer has a number but 0. The words of the paper tell the
--- answers apart: a letter or two of each gives it back. Assumes nothing.
-use mathlib.Core.Path.{_≡_, refl, sym, _∙_, ap}
-use mathlib.Core.List.{List}
+-- The number of an answer is the one due: only the first rule refuses, and no other answer has a number but 0. Assumes nothing.
+use mathlib.Core.Path.{_≡_, refl, _∙_, ap}
+use mathlib.Core.Bool.{true, false, not}
+use mathlib.Core.List.{List, [], _∷_}
+use mathlib.Core.Logic.{_↔_, Iff·trans, true-and}
 use Prim.Native.Nat.{ℕ}
-use lib.Dec.{eqb}
-use lib.ListN.{getD}
-use Rattle.laws.specs.Pick.{pick}
+use borrow.Author.Tests.{not-false}
+use lib.Dec.{lit<}
+use Rattle.laws.specs.Refuse.{Refusal, _⇒_}
 use Rattle.laws.proofs.BoolLaws.{pick-ap}
+use Rattle.laws.proofs.RefuseLaws.{given, accepted}
 use Rattle.device.specs.declared.Mpu.{Mpu}
 use Rattle.device.specs.declared.Access.{Access}
 use Rattle.device.specs.declared.Answer.{Answer}
-use Rattle.device.specs.declared.Answer.the-variants.{Private, Unchecked, Undefined, Permitted, Denied, Refused}
+use Rattle.device.specs.Registers.{allowed}
 use Rattle.device.specs.Permission.{rowAnswer}
-use Rattle.device.specs.Decision.{judged, decision, numberOf, decisionNo, nameOf}
-use Rattle.laws.proofs.TestLaws.{pick-same}
+use Rattle.device.specs.Decision.{judged, decision, numberOf, decisionNo}
+use Rattle.laws.proofs.TestLaws.{not-exactly, pick-same}
 use Rattle.device.proofs.PermissionLaws.{grants-as}
 
 module _ (n : ℕ) (m : Mpu) (a : Access) where
@@ -25,20 +27,15 @@ module _ (n : ℕ) (m : Mpu) (a : Access) where
   pub in-numbers : {r : Answer} → r ≡ decision n m a → (r ≡ decision n m a) × (numberOf r ≡ decisionNo m)
   in-numbers e = (e, ap numberOf e ∙ number-due)
 
--- ---- the words
-answerNamed : List ℕ → Answer
-answerNamed w =
-    pick (eqb (getD w 0 0) 112) (pick (eqb (getD w 1 0) 114) Private Permitted)
-    (pick (eqb (getD w 0 0) 100) Denied (pick (eqb (getD w 0 0) 114) Refused (pick (eqb (getD w 2 0) 99) Unchecked Undefined)))
+-- ---- in the paper's numbers: 12 exactly for a control outside the list, else 0
+module _ (m : Mpu) where
+  abbrev refusals : List Refusal
+  refusals = (not (allowed (m .control)) ⇒ 12) ∷ []
 
-given-back : (r : Answer) → answerNamed (nameOf r) ≡ r
-unfolding answerNamed
-given-back Private = refl
-given-back Unchecked = refl
-given-back Undefined = refl
-given-back Permitted = refl
-given-back Denied = refl
-given-back Refused = refl
+  pub number-12 : (decisionNo m ≡ 12) ↔ (allowed (m .control) ≡ false)
+  unfolding decisionNo
+  number-12 = Iff·trans (given refusals refl refl 0 (lit< tt)) (Iff·trans true-and (not-exactly _))
 
-pub name-one : (r s : Answer) → nameOf r ≡ nameOf s → r ≡ s
-name-one r s e = sym (given-back r) ∙ ap answerNamed e ∙ given-back s
+  pub number-0 : (decisionNo m ≡ 0) ↔ (allowed (m .control) ≡ true)
+  unfolding decisionNo
+  number-0 = Iff·trans (accepted refusals refl) (λ q. not-false _ (q .0), λ h. (ap not h, tt))

@@ -18,7 +18,7 @@ use Rattle.laws.proofs.TestLaws.{and-exactly, not-exactly, lt-exactly, ge-exact
 -- ---- by the triple alone
 module _ (n : ℕ) (w : Write) where
   -- 10: the register is neither a slot nor the control
-  pub ten-exactly : (tripleNo n w ≡ 10) ↔ ((n ≤ w .rnr) × (¬ (w .rnr ≡ ctrl)))
+  pub ten-exactly : (tripleNo n w ≡ 10) ↔ ((n ≤ w .rnr) × (¬ (w .rnr ≡ 4294967295)))
   unfolding tripleNo tripleRefusals
   ten-exactly =
       Iff·trans (given (tripleRefusals n w) refl refl 0 (lit< tt))
@@ -36,13 +36,13 @@ module _ (n : ℕ) (w : Write) where
       facts : ((slotNamed n w && validBit w) ≡ true) ↔ ((w .rnr < n) × (w .rbar / 16 % 2 ≡ 1))
       facts = Iff·trans (and-exactly (slotNamed n w) (validBit w)) (Iff·and (lt-exactly _ _) (eq-exactly _ _))
 
-  module _ (fewer : n ≤ ctrl) where
+  module _ (fewer : n ≤ 4294967295) where
     -- the control is no slot
     above : w .rnr ≡ ctrl → slotNamed n w ≡ false
     above e = rw e (le-ltb ctrl n fewer)
 
     -- 12: the control, with a value that is not allowed
-    pub twelve-exactly : (tripleNo n w ≡ 12) ↔ ((w .rnr ≡ ctrl) × (allowed (w .rasr) ≡ false))
+    pub twelve-exactly : (tripleNo n w ≡ 12) ↔ ((w .rnr ≡ 4294967295) × (allowed (w .rasr) ≡ false))
     unfolding tripleNo tripleRefusals
     twelve-exactly =
         Iff·trans (given (tripleRefusals n w) refl refl 2 (lit< tt))
@@ -52,7 +52,7 @@ module _ (n : ℕ) (w : Write) where
         facts = Iff·trans (and-exactly (ctrlNamed w) (not (allowed (w .rasr)))) (Iff·and (eq-exactly _ _) (not-exactly _))
 
     -- 0: a slot with bit 4 clear, or the control with a value that is allowed
-    pub zero-exactly : (tripleNo n w ≡ 0) ↔ (((w .rnr < n) × (¬ (w .rbar / 16 % 2 ≡ 1))) ⊎ ((w .rnr ≡ ctrl) × (allowed (w .rasr) ≡ true)))
+    pub zero-exactly : (tripleNo n w ≡ 0) ↔ (((w .rnr < n) × (¬ (w .rbar / 16 % 2 ≡ 1))) ⊎ ((w .rnr ≡ 4294967295) × (allowed (w .rasr) ≡ true)))
     unfolding tripleNo tripleRefusals
     zero-exactly = Iff·trans (accepted (tripleRefusals n w) refl) (by (slotNamed n w) (ctrlNamed w) refl refl, quiet)
       where

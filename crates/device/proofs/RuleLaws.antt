@@ -4,11 +4,12 @@ use mathlib.Core.Path.{_≡_, refl, sym, _∙_, ap}
 use mathlib.Core.Bool.{true, false, not}
 use mathlib.Core.Logic.{_↔_, Iff·trans, Iff·and}
 use mathlib.Core.List.{List, [], _∷_}
-use Prim.Native.Nat.{ℕ, _≤_}
-use borrow.Author.Tests.{not-true}
+use Prim.Native.Nat.{ℕ, _%_, _≤_}
+use native.Mathlib.Omega.{arith}
+use borrow.Author.Tests.{not-true, eqb-false, ne-eqb}
 use lib.Dec.{lit<}
 use Rattle.laws.specs.Refuse.{Refusal, _⇒_, refuse}
-use Rattle.laws.proofs.BoolLaws.{pick-ap}
+use Rattle.laws.proofs.BoolLaws.{pick-ap, fails-exactly}
 use Rattle.laws.proofs.RefuseLaws.{given}
 use Rattle.device.specs.declared.Mpu.{Mpu}
 use Rattle.device.specs.declared.Access.{Access}
@@ -16,7 +17,7 @@ use Rattle.device.specs.declared.Answer.{Answer}
 use Rattle.device.specs.declared.Answer.the-variants.{Private, Unchecked, Undefined, Permitted, Denied, Refused}
 use Rattle.device.specs.Registers.{enables, allowed}
 use Rattle.device.specs.Permission.{rowAnswer}
-use Rattle.device.specs.Decision.{privateFirst, privateLast, privateBus, judged, decision}
+use Rattle.device.specs.Decision.{privateBus, judged, decision}
 use Rattle.laws.proofs.TestLaws.{and-exactly, le-exactly, pick-same}
 use Rattle.device.proofs.PermissionLaws.{grants-as}
 
@@ -42,15 +43,23 @@ module _ (n : ℕ) (m : Mpu) (a : Access) where
   refused-exactly = (λ e. not-true _ (given (early m a) refl refl 0 (lit< tt) .0 (sym rule-due ∙ ap ruleOf e) .1), λ h. rw h)
 
   module _ (held : allowed (m .control) ≡ true) where
+    abbrev OnBus : Type 0
+    OnBus = (0xE000_0000 ≤ a .address) × (a .address ≤ 0xE00F_FFFF)
+
+    bus : (privateBus (a .address) ≡ true) ↔ OnBus
+    bus = Iff·trans (and-exactly _ _) (Iff·and (le-exactly _ _) (le-exactly _ _))
+
     -- rule 1: the private bus, whatever the state
-    pub private-exactly : (decision n m a ≡ Private) ↔ ((privateFirst ≤ a .address) × (a .address ≤ privateLast))
+    pub private-exactly : (decision n m a ≡ Private) ↔ OnBus
     unfolding decision
     private-exactly = (λ e. bus .0 (given (early m a) refl refl 1 (lit< tt) .0 (sym rule-due ∙ ap ruleOf e) .1), λ h. rw (held, bus .1 h))
-      where
-        bus : (privateBus (a .address) ≡ true) ↔ ((privateFirst ≤ a .address) × (a .address ≤ privateLast))
-        bus = Iff·trans (and-exactly _ _) (Iff·and (le-exactly _ _) (le-exactly _ _))
 
     -- rule 2: outside it, unchecked exactly if ENABLE is clear
-    pub unchecked-exactly : privateBus (a .address) ≡ false → (decision n m a ≡ Unchecked) ↔ (enables (m .control) ≡ false)
+    pub unchecked-exactly : ¬ OnBus → (decision n m a ≡ Unchecked) ↔ (m .control % 2 ≡ 0)
     unfolding decision
-    unchecked-exactly out = (λ e. not-true _ (given (early m a) refl refl 2 (lit< tt) .0 (sym rule-due ∙ ap ruleOf e) .1), λ h. rw (held, out, h))
+    unchecked-exactly out = (
+      λ e.
+          let off : ¬ (m .control % 2 ≡ 1) = eqb-false _ _ (not-true _ (given (early m a) refl refl 2 (lit< tt) .0 (sym rule-due ∙ ap ruleOf e) .1)) in
+          omega arith,
+      λ h. rw (held, fails-exactly bus .1 out, ne-eqb (m .control % 2) 1 (λ e. omega arith)),
+    )

@@ -13,7 +13,7 @@ use Rattle.laws.proofs.TestLaws.{pick-same}
 use Rattle.device.specs.declared.Pair.{Pair}
 use Rattle.device.specs.declared.Mpu.{Mpu}
 use Rattle.device.specs.declared.Write.{Write}
-use Rattle.device.specs.Registers.{ctrl, slotAt, allowed}
+use Rattle.device.specs.Registers.{slotAt, allowed}
 use Rattle.device.specs.RegisterWrite.{slotNamed, pairOf, writeNo, stored, writeRegister}
 use Rattle.device.proofs.RefusedWriteLaws.{held-allowed, refused-kept, zero-exactly}
 
@@ -45,15 +45,15 @@ module _ (n : ℕ) (m : Mpu) (w : Write) where
   slots-length = simp (pick-ap (length {A = Pair}), length-set, pick-same)
 
   -- ---- the control: the third value, every slot as it was, the second value nowhere
-  pub control-stored : n ≤ ctrl → w .rnr ≡ ctrl → stored n m w ≡ record { slots = m .slots; control = w .rasr }
+  pub control-stored : n ≤ 4294967295 → w .rnr ≡ 4294967295 → stored n m w ≡ record { slots = m .slots; control = w .rasr }
   unfolding stored
-  control-stored l e = let above : slotNamed n w ≡ false = rw e (le-ltb ctrl n l) in rw above
+  control-stored l e = let above : slotNamed n w ≡ false = rw e (le-ltb 4294967295 n l) in rw above
 
   -- an MPU whose control is allowed keeps an allowed one, whatever is written
-  pub allowed-kept : n ≤ ctrl → allowed (m .control) ≡ true → allowed (writeRegister n m w .mpu .control) ≡ true
+  pub allowed-kept : n ≤ 4294967295 → allowed (m .control) ≡ true → allowed (writeRegister n m w .mpu .control) ≡ true
   allowed-kept l held = by (eqb (writeNo n m w) 0) refl
     where
-      kept : ((w .rnr < n) × (¬ (w .rbar / 16 % 2 ≡ 1))) ⊎ ((w .rnr ≡ ctrl) × (allowed (w .rasr) ≡ true)) → allowed (stored n m w .control) ≡ true
+      kept : ((w .rnr < n) × (¬ (w .rbar / 16 % 2 ≡ 1))) ⊎ ((w .rnr ≡ 4294967295) × (allowed (w .rasr) ≡ true)) → allowed (stored n m w .control) ≡ true
       kept (inl h) = rw (control-stays (h .0)) held
       kept (inr h) = rw (control-stored l (h .0)) (h .1)
 

@@ -1,17 +1,18 @@
--- Worked by hand from the paper: the eight rows, bytes answered by small states, and register writes, each table under one claim that computes. Assumes nothing.
+-- Worked by hand from the paper: the eight rows, bytes answered by small states, the bits of RASR that are read and those that are not, and register writes, each table under one claim that computes. Assumes nothing.
 use mathlib.Core.Path.{_≡_, refl}
 use mathlib.Core.Bool.{Bool, true, false}
-use mathlib.Core.List.{List, [], _∷_, map}
-use Prim.Native.Nat.{ℕ, _+_, _*_}
+use mathlib.Core.List.{List, [], _∷_, _++_, map}
+use Prim.Native.Nat.{ℕ, _+_, _*_, _^_}
 use lib.ListN.{replicate}
 use Rattle.laws.specs.Search.{first, lowest, highest}
+use Rattle.laws.specs.Listed.{listed}
 use Rattle.device.specs.declared.Pair.{Pair}
 use Rattle.device.specs.declared.Mpu.{Mpu}
 use Rattle.device.specs.declared.Kind.{Kind}
 use Rattle.device.specs.declared.Kind.the-variants.{Read, Write}
 use Rattle.device.specs.declared.Answer.{Answer}
 use Rattle.device.specs.declared.Answer.the-variants.{Private, Unchecked, Undefined, Permitted, Denied, Refused}
-use Rattle.device.specs.Registers.{slotCount, ctrl, allowed}
+use Rattle.device.specs.Registers.{slotCount, allowed}
 use Rattle.device.specs.RegisterWrite.{tripleRefusals, writeNo}
 use Rattle.device.specs.Permission.{rowAnswer}
 use Rattle.device.specs.Decision.{bad, matches, judged, decision, numberOf}
@@ -101,11 +102,27 @@ bytes-worked : map told cases ≡ map (λ (c : Case). c .due) cases
 unfolding decision judged bad matches lowest first highest allowed rowAnswer
 bytes-worked = refl
 
+-- ---- bits: the paper's first entry with bit k of RASR set besides, asked to write its first byte
+withBit : ℕ → Answer
+withBit k = decision slotCount (state 1 (pair 536870912 (50331667 + 2 ^ k)) (pair 0 0)) (record { address = 536870912; kind = Write; privileged = false })
+
+-- each of bits 15:8 makes it undefined
+subregions-worked : listed withBit 8 8 ≡ replicate 8 Undefined
+unfolding withBit decision judged bad matches lowest first highest allowed rowAnswer
+subregions-worked = refl
+
+-- bits 7:6, 23:16 and 31:27 are ignored
+ignored-worked : listed withBit 6 2 ++ listed withBit 16 8 ++ listed withBit 27 5 ≡ replicate 15 Permitted
+unfolding withBit decision judged bad matches lowest first highest allowed rowAnswer
+ignored-worked = refl
+
 -- ---- register writes: the held control, the triple, the number
 abbrev refused : ℕ → ℕ → ℕ → ℕ → ℕ
 refused c rnr rbar rasr = writeNo slotCount (worked c) (record { rnr = rnr; rbar = rbar; rasr = rasr })
 
-writes-worked : refused 0 7 32 0 ∷ refused 1 8 0 0 ∷ refused 4 7 16 0 ∷ refused 5 ctrl 16 4 ∷ refused 0 ctrl 0 2 ∷ refused 2 ctrl 0 0 ∷ refused 3 8 16 9 ∷ [] ≡ 0 ∷ 10 ∷ 11 ∷ 0 ∷ 12 ∷ 12 ∷ 12 ∷ []
+-- a slot; no register; RBAR bit 4 and the bits beside it; the control, and no register beside it; a bad control to come, and one that is held
+writes-worked : refused 0 7 32 0 ∷ refused 1 8 0 0 ∷ refused 4 7 16 0 ∷ refused 4 0 15 0 ∷ refused 5 4294967295 16 4 ∷ refused 5 4294967294 0 4 ∷ refused 0 4294967295 0 2 ∷ refused 2 4294967295 0 0 ∷ refused 3 8 16 9 ∷ []
+    ≡ 0 ∷ 10 ∷ 11 ∷ 0 ∷ 0 ∷ 10 ∷ 12 ∷ 12 ∷ 12 ∷ []
 unfolding writeNo tripleRefusals allowed
 writes-worked = refl
 

@@ -6,7 +6,7 @@
 --   unmatched c p    == what is answered where no slot matches
 --   judged n m a     == rules 4 and 5: the deciding slot's row answers, or no slot matches
 --   decision n m a   == the answer of the MPU m, of n slots, to the access a
---   numberOf, nameOf == the number and the word of the paper for an answer
+--   numberOf         == the number of the paper for an answer
 --   decisionNo m     == the number that is due: 12 for a control outside the list
 use mathlib.Core.Bool.{Bool, not, _&&_, _||_}
 use mathlib.Core.List.{List, [], _∷_}
@@ -75,12 +75,3 @@ numberOf Refused = 12
 
 unfoldable pub decisionNo : Mpu → ℕ
 decisionNo m = refuse ((not (allowed (m .control)) ⇒ 12) ∷ [])
-
--- the bytes of the word
-abbrev pub nameOf : Answer → List ℕ
-nameOf Private = 112 ∷ 114 ∷ 105 ∷ 118 ∷ 97 ∷ 116 ∷ 101 ∷ []
-nameOf Unchecked = 117 ∷ 110 ∷ 99 ∷ 104 ∷ 101 ∷ 99 ∷ 107 ∷ 101 ∷ 100 ∷ []
-nameOf Undefined = 117 ∷ 110 ∷ 100 ∷ 101 ∷ 102 ∷ 105 ∷ 110 ∷ 101 ∷ 100 ∷ []
-nameOf Permitted = 112 ∷ 101 ∷ 114 ∷ 109 ∷ 105 ∷ 116 ∷ 116 ∷ 101 ∷ 100 ∷ []
-nameOf Denied = 100 ∷ 101 ∷ 110 ∷ 105 ∷ 101 ∷ 100 ∷ []
-nameOf Refused = 114 ∷ 101 ∷ 102 ∷ 117 ∷ 115 ∷ 101 ∷ 100 ∷ []

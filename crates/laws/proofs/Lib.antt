@@ -6,3 +6,4 @@ pub mod PairLaws
 pub mod RowsLaws
 pub mod PowerLaws
 pub mod ListedLaws
+pub mod CasesLaws

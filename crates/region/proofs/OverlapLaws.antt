@@ -1,7 +1,7 @@
 -- What overlap means. Both halves of the formula hold at once: then the higher of the two bases lies in both ranges, unless one is empty; and a
 -- byte in both gives both halves. Assumes nothing.
 use mathlib.Core.Path.{_≡_, refl, sym, _∙_}
-use mathlib.Core.Bool.{true, false, _&&_, _||_, and-comm, and-false, or-comm, true≢false}
+use mathlib.Core.Bool.{true, false, _||_, and-comm, and-false, or-comm, true≢false}
 use mathlib.Core.List.{[], _∷_}
 use mathlib.Core.Logic.{_↔_, _⊎_, inl, inr, ⊎-elim}
 use Prim.Native.Nat.{ℕ, _+_, _≤_, _<_, max}
@@ -13,7 +13,6 @@ use Rattle.laws.proofs.BoolLaws.{and-left, and-right, both, or-left, or-right, 
 use Rattle.laws.specs.Refuse.{_⇒_}
 use Rattle.laws.proofs.RefuseLaws.{accepted, given}
 use Rattle.region.specs.declared.Range.{Range}
-use Rattle.region.specs.Sound.{highestEnd}
 use Rattle.region.specs.Overlap.{overlaps, passes, overlapAnswer, Inside}
 
 abbrev range : ℕ → ℕ → Range
@@ -64,19 +63,19 @@ empty-at-end a = rw (le-ltb (a .base + a .size) (a .base + a .size) (omega arith
 
 -- ---- the number beside the answer
 module _ (a b : Range) where
-  fit : (passes a || passes b ≡ false) ↔ ((a .base + a .size ≤ highestEnd) × (b .base + b .size ≤ highestEnd))
+  fit : (passes a || passes b ≡ false) ↔ ((a .base + a .size ≤ 4294967295) × (b .base + b .size ≤ 4294967295))
   fit = (
     λ e. (ltb-false _ _ (or-left (passes a) (passes b) e), ltb-false _ _ (or-right (passes a) (passes b) e)),
     λ p. neither (le-ltb _ _ (p .0)) (le-ltb _ _ (p .1)),
   )
 
-  pub overlap-accepted : (overlapAnswer a b .no ≡ 0) ↔ ((a .base + a .size ≤ highestEnd) × (b .base + b .size ≤ highestEnd))
+  pub overlap-accepted : (overlapAnswer a b .no ≡ 0) ↔ ((a .base + a .size ≤ 4294967295) × (b .base + b .size ≤ 4294967295))
   unfolding overlapAnswer
   overlap-accepted =
       let quiet = accepted ((passes a || passes b ⇒ 5) ∷ []) refl in
       (λ e. fit .0 (quiet .0 e .0), λ p. quiet .1 (fit .1 p, tt))
 
-  pub overlap-refused : (overlapAnswer a b .no ≡ 5) ↔ ¬ ((a .base + a .size ≤ highestEnd) × (b .base + b .size ≤ highestEnd))
+  pub overlap-refused : (overlapAnswer a b .no ≡ 5) ↔ ¬ ((a .base + a .size ≤ 4294967295) × (b .base + b .size ≤ 4294967295))
   unfolding overlapAnswer
   overlap-refused =
       let why = given ((passes a || passes b ⇒ 5) ∷ []) refl refl 0 (lit< tt) in

@@ -24,7 +24,7 @@ module _ (size : ℕ) (word : size < 2 ^ 32) where
   pub why-2 : (Unit {0} × (not (isPow2 size) ≡ true)) ↔ ¬ Pow2 size
   why-2 = (λ q. fails-exactly power .0 (not-true _ (q .1)), λ n. (tt, ap not (fails-exactly power .1 n)))
 
-  pub why-3 : (((not (isPow2 size) ≡ false) × Unit {0}) × (ltb size minRegionSize ≡ true)) ↔ (Pow2 size × (size < minRegionSize))
+  pub why-3 : (((not (isPow2 size) ≡ false) × Unit {0}) × (ltb size minRegionSize ≡ true)) ↔ (Pow2 size × (size < 32))
   why-3 = (λ q. (power .0 (not-false _ (q .0 .0)), ltb-true _ _ (q .1)), λ s. ((ap not (power .1 (s .0)), tt), lt-ltb _ _ (s .1)))
 
 -- ---- one region
@@ -45,11 +45,11 @@ module _ (base size : ℕ) (word : size < 2 ^ 32) where
   unfolding regionNo soundness
   refused-2 = Iff·trans (given (soundness base size) refl refl 0 (lit< tt)) (why-2 size word)
 
-  pub refused-3 : (regionNo base size ≡ 3) ↔ (Pow2 size × (size < minRegionSize))
+  pub refused-3 : (regionNo base size ≡ 3) ↔ (Pow2 size × (size < 32))
   unfolding regionNo soundness
   refused-3 = Iff·trans (given (soundness base size) refl refl 1 (lit< tt)) (why-3 size word)
 
-  pub refused-4 : (regionNo base size ≡ 4) ↔ (Pow2 size × (minRegionSize ≤ size) × ¬ (base % size ≡ 0))
+  pub refused-4 : (regionNo base size ≡ 4) ↔ (Pow2 size × (32 ≤ size) × ¬ (base % size ≡ 0))
   unfolding regionNo soundness
   refused-4 =
       Iff·trans (given (soundness base size) refl refl 2 (lit< tt)) (
@@ -57,7 +57,7 @@ module _ (base size : ℕ) (word : size < 2 ^ 32) where
         λ s. ((ap not (power size word .1 (s .0)), (le-ltb _ _ (s .1), tt)), ap not (ne-eqb _ _ (s .2))),
       )
 
-  pub refused-5 : (regionNo base size ≡ 5) ↔ (Pow2 size × (minRegionSize ≤ size) × (base % size ≡ 0) × (highestEnd < base + size))
+  pub refused-5 : (regionNo base size ≡ 5) ↔ (Pow2 size × (32 ≤ size) × (base % size ≡ 0) × (4294967295 < base + size))
   unfolding regionNo soundness
   refused-5 =
       Iff·trans (given (soundness base size) refl refl 3 (lit< tt)) (
@@ -73,7 +73,7 @@ sound-facts base size e =
     sound-exactly base size (omega arith) .0 e
 
 -- a sound base is a multiple of the smallest size, whatever its own
-pub base-multiple : (base size : ℕ) → regionNo base size ≡ 0 → base % minRegionSize ≡ 0
+pub base-multiple : (base size : ℕ) → regionNo base size ≡ 0 → base % 32 ≡ 0
 base-multiple base size e = sym (mod-mod-of-dvd minRegionSize base (dvd-of-mod-eq-zero minRegionSize whole)) ∙ ap (λ (r : ℕ). r % minRegionSize) (s .multiple)
   where
     s : Sound base size
@@ -95,7 +95,7 @@ zero-size-refused base = refused-2 base 0 (lit< tt) .1 (λ p. not-zero (p .0) (p
     not-zero : (k : ℕ) → 0 ≡ 2 ^ k → ⊥
     not-zero k e = omega (arith, pow-pos k, e)
 
-pub below-minimum-refused : (base size : ℕ) → size < minRegionSize → ¬ (regionNo base size ≡ 0)
+pub below-minimum-refused : (base size : ℕ) → size < 32 → ¬ (regionNo base size ≡ 0)
 below-minimum-refused base size h e = omega (arith, h, sound-exactly base size (omega (arith, h)) .0 e .least)
 
 pub misaligned-refused : (base size : ℕ) → size < 2 ^ 32 → ¬ (base % size ≡ 0) → ¬ (regionNo base size ≡ 0)

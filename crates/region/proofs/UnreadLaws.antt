@@ -2,7 +2,7 @@
 -- records, so it is the same of two lists that agree there. Assumes nothing.
 use mathlib.Core.Path.{_≡_, refl, sym, _∙_, ap, ap₂}
 use Prim.Native.Nat.{ℕ, _+_, _*_, _≤_, _<_, zero-le}
-use native.Mathlib.Nat.{lt-of-lt-of-le, not-suc-le-zero, not-le-of-lt}
+use native.Mathlib.Nat.{not-suc-le-zero, not-le-of-lt}
 use native.Mathlib.Omega.{arith}
 use mathlib.Core.List.{List}
 use lib.ListN.{getD}
@@ -11,7 +11,7 @@ use Rattle.region.specs.declared.Judged.{Judged}
 use Rattle.region.specs.declared.Judged.the-variants.{Valid, Short, Unsound, Pair}
 use Rattle.region.specs.Sound.{regionNo}
 use Rattle.region.specs.Overlap.{overlaps}
-use Rattle.region.specs.List.{wordsEach, recordAt, records, numberAt, meeting, judged, Says}
+use Rattle.region.specs.List.{recordAt, records, numberAt, meeting, judged, Says}
 use Rattle.region.proofs.ListLaws.{list-exactly}
 
 module _ (at to : ℕ → Range) (have got n : ℕ) (h : n ≤ have) (g : n ≤ got) (same : (i : ℕ) → i < n → at i ≡ to i) where
@@ -43,7 +43,7 @@ module _ (at to : ℕ → Range) (have got n : ℕ) (h : n ≤ have) (g : n ≤ 
 
 -- two lists of words that hold n records each, with the same bases and sizes: whatever their attr, and whatever follows
 pub attr-unread : (ws vs : List ℕ) (n : ℕ) → n ≤ records ws → n ≤ records vs
-    → ((i : ℕ) → i < n → (getD ws (wordsEach * i) 0 ≡ getD vs (wordsEach * i) 0) × (getD ws (wordsEach * i + 1) 0 ≡ getD vs (wordsEach * i + 1) 0))
+    → ((i : ℕ) → i < n → (getD ws (3 * i) 0 ≡ getD vs (3 * i) 0) × (getD ws (3 * i + 1) 0 ≡ getD vs (3 * i + 1) 0))
     → judged (recordAt ws) (records ws) n ≡ judged (recordAt vs) (records vs) n
 attr-unread ws vs n h g e = same-list (recordAt ws) (recordAt vs) (records ws) (records vs) n h g (λ i l. λ k. record { base = e i l .0 k; size = e i l .1 k })
 

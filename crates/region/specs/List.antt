@@ -81,7 +81,7 @@ placesOf (Pair i j) = i ∷ j ∷ []
 
 -- ---- what an answer says
 abbrev pub AllSound : (ℕ → Range) → ℕ → Type 0
-AllSound at n = (i : ℕ) → i < n → numberAt at i ≡ 0
+AllSound at n = (i : ℕ) → i < n → regionNo (at i .base) (at i .size) ≡ 0
 
 abbrev pub Apart : (ℕ → Range) → ℕ → Type 0
 Apart at n = (i j : ℕ) → i < j → j < n → overlaps (at i) (at j) ≡ false
@@ -93,5 +93,5 @@ First at n i j = FirstPair (meeting at) n i j
 abbrev pub Says : (ℕ → Range) → ℕ → ℕ → Judged → Type 0
 Says at have n Valid = (n ≤ have) × AllSound at n × Apart at n
 Says at have n Short = have < n
-Says at have n (Unsound i k) = (n ≤ have) × AllSound at i × (i < n) × (numberAt at i ≡ k) × ¬ (k ≡ 0)
+Says at have n (Unsound i k) = (n ≤ have) × AllSound at i × (i < n) × (regionNo (at i .base) (at i .size) ≡ k) × ¬ (k ≡ 0)
 Says at have n (Pair i j) = (n ≤ have) × AllSound at n × First at n i j

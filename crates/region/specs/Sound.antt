@@ -32,6 +32,6 @@ regionNo base size = refuse (soundness base size)
 
 pub record Sound (base size : ℕ) : Type 0 where
   pub power : Pow2 size
-  pub least : minRegionSize ≤ size
+  pub least : 32 ≤ size
   pub multiple : base % size ≡ 0
-  pub fits : base + size ≤ highestEnd
+  pub fits : base + size ≤ 4294967295
