@@ -2,10 +2,7 @@
 use crate::print;
 use form::read_whole;
 use table::CELLS;
-use table::Part;
 use table::Request;
-use table::SLOTS;
-use table::Slot;
 use table::Table;
 
 pub struct Changed {
@@ -52,7 +49,7 @@ fn entry(text: &[u8], t: Table) -> bool {
     if CELLS <= at as usize {
         return false;
     }
-    let e = t.entry(Part(at / SLOTS), Slot(at % SLOTS));
+    let e = t.cell(at);
     print::mark(b"enabled=", e.enabled);
     print::key(b" base=", e.base);
     print::key(b" size=", e.size);

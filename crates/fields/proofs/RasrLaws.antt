@@ -40,6 +40,10 @@ pub record Holds (v size ap : ℕ) : Type 0 where
   pub ap-bits : v / 2 ^ 24 % 8 ≡ ap
   pub above : v / 2 ^ 27 ≡ 0
 
+-- AP: 3 if writable, else 6
+pub ap-exactly : (apField true ≡ 3) × (apField false ≡ 6)
+ap-exactly = (refl, refl)
+
 pub ap-range : (w : Bool) → apField w ≤ 6
 ap-range true = omega arith
 ap-range false = omega arith

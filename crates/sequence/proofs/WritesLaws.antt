@@ -1,26 +1,30 @@
--- Which write stands where: the off first, slot by slot, the on last. Each by its place in the list; and the number, exactly when stated.
--- Assumes nothing.
+-- Which write stands where: the off first, slot by slot, the on last. Each by its place in the list; and the number, exactly when stated, with
+-- zeros at every place where it refuses. Assumes nothing.
 use mathlib.Core.Path.{_≡_, refl, sym, _∙_, ap, ap₂}
-use mathlib.Core.Bool.{true, false, not}
+use mathlib.Core.Bool.{Bool, true, false, not}
 use mathlib.Core.Logic.{_↔_}
 use mathlib.Core.List.{List, [], _∷_, _++_}
-use Prim.Native.Nat.{ℕ, suc, _+_, _-_, _≤_, _<_}
+use Prim.Native.Nat.{ℕ, suc, _+_, _-_, _*_, _^_, _≤_, _<_}
 use native.Mathlib.Nat.{zero-add}
 use native.Mathlib.Numerals.{add-two}
 use native.Mathlib.Omega.{arith}
 use borrow.Author.Tests.{ne-eqb, le-leb, lt-leb, not-true, not-false}
-use lib.Dec.{lit<}
-use lib.ListN.{length, getD}
+use lib.Dec.{eqb, lit<}
+use lib.ListN.{length, getD, replicate, length-replicate, getD-replicate}
+use Rattle.laws.specs.Pick.{pick}
 use Rattle.laws.specs.Refuse.{_⇒_}
 use Rattle.laws.specs.Listed.{listed}
 use Rattle.laws.proofs.RefuseLaws.{accepted, given}
 use Rattle.laws.proofs.ListedLaws.{length-listed, getD-listed, listed-snoc, listed-same}
+use Rattle.fields.specs.Fields.{rasr}
+use Rattle.fields.proofs.SizeLaws.{size-of-power}
 use Rattle.device.specs.declared.Write.{Write}
 use Rattle.table.specs.declared.Table.{Table}
+use Rattle.table.specs.declared.Entry.{Entry}
 use Rattle.table.specs.Table.{slotEntry}
 use Rattle.table.specs.Lawful.{lawful}
 use Rattle.table.specs.Covers.{beyond}
-use Rattle.sequence.specs.Sequence.{off, on, slotWrite, writeAt, writes, sequenceNo, sequence}
+use Rattle.sequence.specs.Sequence.{triple, off, on, slotWrite, writeAt, writes, sequenceNo, sequence}
 
 module _ (n : ℕ) (t : Table) (p : ℕ) where
   -- ---- by place: upstream's P4a, P1 to P3, P4b
@@ -81,3 +85,25 @@ module _ (n : ℕ) (t : Table) (p : ℕ) where
   pub sequence-writes : sequence n t p .no ≡ 0 → sequence n t p .writes ≡ writes n t p
   unfolding sequence
   sequence-writes e = rw e
+
+  -- ---- accepted or refused, n + 2 triples; refused, zeros at each place, and each is really there
+  pub sequence-length : length (sequence n t p .writes) ≡ n + 2
+  unfolding sequence
+  sequence-length = by (eqb (sequenceNo n t p) 0) _ (length-replicate (n + 2) _)
+    where
+      by : (b : Bool) (zeros : List Write) → length zeros ≡ n + 2 → length (pick b (writes n t p) zeros) ≡ n + 2
+      by true zeros e = writes-length
+      by false zeros e = e
+
+  pub sequence-zeros : ¬ (sequence n t p .no ≡ 0) → (i : ℕ) → i < n + 2 → getD (sequence n t p .writes) i (record { rnr = 1; rbar = 1; rasr = 1 }) ≡ record { rnr = 0; rbar = 0; rasr = 0 }
+  unfolding sequence
+  sequence-zeros h i k = rw (ne-eqb (sequenceNo n t p) 0 h) (getD-replicate (n + 2) i (triple 0 0 0) (triple 1 1 1) k)
+
+-- ---- a slot's write in plain numbers: zeros unless it is enabled; else its base and RASR, of a size 2 ^ (f + 1)
+pub slot-empty : (s : ℕ) (e : Entry) → e .enabled ≡ false → slotWrite s e ≡ record { rnr = s; rbar = 0; rasr = 0 }
+unfolding slotWrite
+slot-empty s e off = rw off
+
+pub slot-granted : (s f : ℕ) (e : Entry) → e .enabled ≡ true → f < 32 → e .size ≡ 2 ^ (f + 1) → slotWrite s e ≡ record { rnr = s; rbar = e .base; rasr = 1 + 2 * f + 16777216 * pick (e .writable) 3 6 }
+unfolding slotWrite rasr
+slot-granted s f e on h k = rw (on, k, size-of-power f h)

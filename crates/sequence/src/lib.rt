@@ -114,19 +114,20 @@ fn slot_write(s: Slot, e: Entry) -> Write
     requires { ⌜ (e .enabled ≡ true → regionNo (e .base) (e .size) ≡ 0) ⌝ }
     ensures { λ r. ⌜ r ≡ slotWrite (s .0) e ⌝ }
 {
+    let rnr = s.number();
     if e.enabled {
         let a = Attributes {
             size: e.size,
             writable: e.writable,
         };
         Write {
-            rnr: s.0,
+            rnr,
             rbar: e.base,
             rasr: fields::rasr_for(a).value,
         }
     } else {
         Write {
-            rnr: s.0,
+            rnr,
             rbar: 0,
             rasr: 0,
         }

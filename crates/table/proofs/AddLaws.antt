@@ -8,6 +8,7 @@ use native.Mathlib.Decide.{ℕ-discrete}
 use native.Mathlib.Omega.{arith}
 use borrow.Author.Tests.{ltb-true, lt-ltb, not-true, not-false, eqb-true, ne-eqb}
 use lib.Dec.{eqb}
+use lib.ListN.{getD}
 use Rattle.laws.specs.Search.{Least}
 use Rattle.laws.proofs.BoolLaws.{unless}
 use Rattle.laws.proofs.SearchLaws.{none-exactly, some-exactly, lowest-least}
@@ -77,3 +78,14 @@ module _ (n : ℕ) (t : Table) (p : ℕ) (q : Request) where
     pub grants : Grants n t p q (tryAdd n t p q .table)
     grants =
         record { slot = firstFree n t p; within = within; was-free = not-true _ (low .passes within); lowest = λ s h. not-false _ (low .none s zero-le h); entry = rw table-is (slot-same n t p (firstFree n t p) (granted q) within w (accepts-exactly .0 ok .partition)); others = λ i d. rw table-is (with-other t (flatIndex n p (firstFree n t p)) i (granted q) d) }
+
+    -- the same in the four arrays, place by place: as asked and enabled at 8 x partition + slot
+    pub stored : let u = tryAdd n t p q .table in let i = n * p + grants .slot in (getD (u .base) i 0 ≡ q .base) × (getD (u .size) i 0 ≡ q .size) × (getD (u .enabled) i false ≡ true) × (getD (u .writable) i false ≡ q .writable)
+    unfolding slotEntry
+    stored =
+        (ap (λ (e : Entry). e .base) (grants .entry), ap (λ (e : Entry). e .size) (grants .entry), ap (λ (e : Entry). e .enabled) (grants .entry), ap (λ (e : Entry). e .writable) (grants .entry))
+
+    pub others-stay : let u = tryAdd n t p q .table in (i : ℕ) → ¬ (i ≡ n * p + grants .slot) → (getD (u .base) i 0 ≡ getD (t .base) i 0) × (getD (u .size) i 0 ≡ getD (t .size) i 0) × (getD (u .enabled) i false ≡ getD (t .enabled) i false) × (getD (u .writable) i false ≡ getD (t .writable) i false)
+    others-stay i d =
+        let o = grants .others i d in
+        (ap (λ (e : Entry). e .base) o, ap (λ (e : Entry). e .size) o, ap (λ (e : Entry). e .enabled) o, ap (λ (e : Entry). e .writable) o)

@@ -1,9 +1,9 @@
 -- What stands in a table after an entry is written: that entry at its place, and what stood elsewhere. And two slots have one place only if
--- they are one slot of one partition: division by the slot count reads the two numbers back. Assumes nothing.
+-- they are one slot of one partition: division by the slot count reads the two numbers back, at every place. Assumes nothing.
 use mathlib.Core.Path.{_≡_, sym, _∙_, ap, subst}
 use mathlib.Core.Bool.{false}
 use Prim.Native.Nat.{ℕ, _+_, _*_, _/_, _%_, _<_}
-use native.Mathlib.Nat.{mul-comm}
+use native.Mathlib.Nat.{mul-comm, mod-lt, div-add-mod, div-lt-iff-lt-mul}
 use borrow.Author.Tests.{lt-ltb}
 use lib.Arith.{digits-div, digits-mod, digits-lt}
 use lib.ListN.{length-set, length-replicate}
@@ -29,7 +29,7 @@ with-whole n t i e w =
 
 pub empty-whole : (n : ℕ) → Whole n (emptyTable n)
 empty-whole n =
-    record { base = length-replicate (parts * n) 0; size = length-replicate (parts * n) 0; enabled = length-replicate (parts * n) false; writable = length-replicate (parts * n) false }
+    record { base = length-replicate (parts * n) _; size = length-replicate (parts * n) _; enabled = length-replicate (parts * n) _; writable = length-replicate (parts * n) _ }
 
 -- ---- the flat index
 module _ (n p s : ℕ) (h : s < n) where
@@ -48,6 +48,10 @@ module _ (n p s : ℕ) (h : s < n) where
 pub flat-one : (n p s q r : ℕ) → s < n → r < n → flatIndex n p s ≡ flatIndex n q r → (p ≡ q) × (s ≡ r)
 flat-one n p s q r h k e =
     (sym (part-of n p s h) ∙ ap (λ (x : ℕ). x / n) e ∙ part-of n q r k, sym (slot-of n p s h) ∙ ap (λ (x : ℕ). x % n) e ∙ slot-of n q r k)
+
+-- every place of the arrays is a slot of one of the four partitions
+pub every-place : (n i : ℕ) → 0 < n → i < 4 * n → (flatIndex n (i / n) (i % n) ≡ i) × (i / n < 4) × (i % n < n)
+every-place n i h k = (div-add-mod i n, div-lt-iff-lt-mul h .1 k, mod-lt i h)
 
 -- ---- the slots of a partition
 module _ (n : ℕ) (t : Table) (p s : ℕ) (e : Entry) (h : s < n) where

@@ -1,6 +1,7 @@
 pub mod NumbersLaws
 pub mod BuilderNo
 pub mod EntryLaws
+pub mod PlaceLaws
 pub mod LawfulLaws
 pub mod CoversLaws
 pub mod RefusalLaws

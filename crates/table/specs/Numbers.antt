@@ -2,6 +2,8 @@
 --   parts, slots, cells == 4 partitions of 8 slots, 32 places
 --   flatIndex n p s     == slot count x partition + slot
 --   parted, slotted     == the number as a partition or a slot, if it is below 4 or 8
+--   found s             == s is a slot, and not beyond the last
+use mathlib.Core.Bool.{Bool, true, false}
 use Prim.Native.Nat.{ℕ, _+_, _*_}
 use lib.Dec.{ltb}
 use Rattle.laws.specs.Pick.{pick}
@@ -25,3 +27,7 @@ parted n = pick (ltb n parts) (Parted.Is (record { 0 = n })) Parted.Beyond
 
 abbrev pub slotted : ℕ → Slotted
 slotted n = pick (ltb n slots) (Slotted.Is (record { 0 = n })) Slotted.Beyond
+
+abbrev pub found : Slotted → Bool
+found (Slotted.Is s) = true
+found Slotted.Beyond = false

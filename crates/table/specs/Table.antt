@@ -6,6 +6,7 @@
 --   slotEntry n t p s == the entry of slot s of partition p
 --   noEntry           == zeros, not enabled
 --   entryAnswer n t p s == the slot's entry, or noEntry where p or s is out of range
+--   cellAnswer n t i  == what stands at place i, counted through all partitions, or noEntry beyond the last
 use mathlib.Core.Bool.{Bool, false, _&&_}
 use mathlib.Core.List.{List}
 use Prim.Native.Nat.{ℕ, _*_}
@@ -39,3 +40,6 @@ noEntry = record { base = 0; size = 0; enabled = false; writable = false }
 
 unfoldable pub entryAnswer : ℕ → Table → ℕ → ℕ → Entry
 entryAnswer n t p s = pick (ltb p parts && ltb s n) (slotEntry n t p s) noEntry
+
+unfoldable pub cellAnswer : ℕ → Table → ℕ → Entry
+cellAnswer n t i = pick (ltb i (parts * n)) (entryAt t i) noEntry

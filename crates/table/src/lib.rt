@@ -5,7 +5,7 @@ pub use numbers::CELLS;
 use numbers::PARTS;
 pub use numbers::Part;
 pub use numbers::Parted;
-pub use numbers::SLOTS;
+use numbers::SLOTS;
 pub use numbers::Slot;
 pub use numbers::Slotted;
 use numbers::flat;
@@ -15,8 +15,8 @@ ghost use mathlib.Core.Bool.{_&&_};
 ghost use Prim.Native.Nat.{_+_, _<_, _≤_};
 ghost use lib.Dec.{ltb, leb};
 ghost use Rattle.laws.specs.Search.{lowest, some};
-ghost use Rattle.table.specs.Numbers.{parts, slots, cells};
-ghost use Rattle.table.specs.Table.{withEntry, emptyTable, slotEntry, entryAnswer, tableOf};
+ghost use Rattle.table.specs.Numbers.{parts, slots, cells, slotted};
+ghost use Rattle.table.specs.Table.{withEntry, emptyTable, entryAt, slotEntry, noEntry, entryAnswer, cellAnswer, tableOf};
 ghost use Rattle.table.specs.Entries.{rangeOf, asked, slotAsked};
 ghost use Rattle.table.specs.Lawful.{clashAt, lawfulPart, lawful};
 ghost use Rattle.table.specs.Covers.{coverAnswer};
@@ -96,17 +96,16 @@ impl Table {
             base: q.base,
             size: q.size,
         };
-        if self.first_slot(p, 0, Question::Meets(wanted)) < SLOTS {
+        if self.first_slot(p, Question::Meets(wanted)).found() {
             return Added { no: 6, table: self };
         }
-        let free = self.first_slot(p, 0, Question::Free);
-        if SLOTS <= free {
+        let Slotted::Is(free) = self.first_slot(p, Question::Free) else {
             return Added { no: 7, table: self };
-        }
+        };
         Added {
             no: 0,
             table: self.with(
-                flat(p, Slot::at(free)),
+                flat(p, free),
                 Entry {
                     base: q.base,
                     size: q.size,
@@ -126,7 +125,7 @@ impl Table {
         };
         Covered {
             no: 0,
-            yes: self.first_slot(p, 0, Question::Covers(address)) < SLOTS,
+            yes: self.first_slot(p, Question::Covers(address)).found(),
         }
     }
 
@@ -157,10 +156,21 @@ impl Table {
         entry_of(&self.base, &self.size, &self.enabled, &self.writable, p, s)
     }
 
-    // The lowest slot from `from` on whose entry answers yes; 8 where none does.
-    fn first_slot(self, p: Part, from: u32, what: Question) -> u32
-        requires { ⌜ (p .0 < parts) × (from ≤ slots) ⌝ }
-        ensures { λ r. ⌜ r ≡ lowest (slotAsked slots self (p .0) what) from slots ⌝ }
+    // What the four arrays hold at a place, counted through all partitions; an empty entry beyond the last place.
+    pub fn cell(self, at: u32) -> Entry
+        ensures { λ r. ⌜ r ≡ cellAnswer slots self at ⌝ }
+    {
+        let i = at as usize;
+        if CELLS <= i {
+            return no_entry();
+        }
+        entry_at(&self.base, &self.size, &self.enabled, &self.writable, i)
+    }
+
+    // The lowest slot whose entry answers yes, if one does.
+    fn first_slot(self, p: Part, what: Question) -> Slotted
+        requires { ⌜ p .0 < parts ⌝ }
+        ensures { λ r. ⌜ r ≡ slotted (lowest (slotAsked slots self (p .0) what) 0 slots) ⌝ }
     {
         lowest_slot(
             &self.base,
@@ -168,7 +178,6 @@ impl Table {
             &self.enabled,
             &self.writable,
             p,
-            from,
             what,
         )
     }
@@ -197,17 +206,13 @@ pub fn entry_of<'a>(
 ) -> Entry
     ensures { λ r. ⌜ r ≡ entryAnswer slots (tableOf (now (base .entry)) (now (size .entry)) (now (enabled .entry)) (now (writable .entry))) (p .0) (s .0) ⌝ }
 {
-    if p.0 < PARTS {
-        if s.0 < SLOTS {
-            return peek(base, size, enabled, writable, p, s);
-        }
+    if PARTS <= p.number() {
+        return no_entry();
     }
-    Entry {
-        base: 0,
-        size: 0,
-        enabled: false,
-        writable: false,
+    if SLOTS <= s.number() {
+        return no_entry();
     }
+    peek(base, size, enabled, writable, p, s)
 }
 
 // What follows is lent the four arrays: a table by value would be copied, 320 bytes a call.
@@ -221,7 +226,7 @@ fn lawful_part<'a>(
     requires { ⌜ p .0 < parts ⌝ }
     ensures { λ r. ⌜ r ≡ lawfulPart slots (tableOf (now (base .entry)) (now (size .entry)) (now (enabled .entry)) (now (writable .entry))) (p .0) ⌝ }
 {
-    if lowest_slot(base, size, enabled, writable, p, 0, Question::Unsound) < SLOTS {
+    if lowest_slot(base, size, enabled, writable, p, Question::Unsound).found() {
         return false;
     }
     !clashes(base, size, enabled, writable, p)
@@ -260,23 +265,23 @@ fn clashes_at<'a>(
     ensures { λ r. ⌜ r ≡ clashAt slots (tableOf (now (base .entry)) (now (size .entry)) (now (enabled .entry)) (now (writable .entry))) (p .0) (s .0) ⌝ }
 {
     let e = peek(base, size, enabled, writable, p, s);
-    e.enabled && meets_from(base, size, enabled, writable, p, s.0 + 1, range_of(e))
+    e.enabled && meets_after(base, size, enabled, writable, p, s, range_of(e))
 }
 
-// Does some enabled entry from a slot on meet this range? A loop of its own, since `lawful` asks it most.
-fn meets_from<'a>(
+// Does some enabled entry after this slot meet this range? A loop of its own, since `lawful` asks it most.
+fn meets_after<'a>(
     base: &'a [u32; CELLS],
     size: &'a [u32; CELLS],
     enabled: &'a [bool; CELLS],
     writable: &'a [bool; CELLS],
     p: Part,
-    from: u32,
+    after: Slot,
     r: Range,
 ) -> bool
-    requires { ⌜ (p .0 < parts) × (from ≤ slots) ⌝ }
-    ensures { λ b. ⌜ b ≡ some (slotAsked slots (tableOf (now (base .entry)) (now (size .entry)) (now (enabled .entry)) (now (writable .entry))) (p .0) (Question.Meets r)) from slots ⌝ }
+    requires { ⌜ (p .0 < parts) × (after .0 < slots) ⌝ }
+    ensures { λ b. ⌜ b ≡ some (slotAsked slots (tableOf (now (base .entry)) (now (size .entry)) (now (enabled .entry)) (now (writable .entry))) (p .0) (Question.Meets r)) (after .0 + 1) slots ⌝ }
 {
-    let mut s = from;
+    let mut s = after.number() + 1;
     while s < SLOTS {
         if ask(
             peek(base, size, enabled, writable, p, Slot::at(s)),
@@ -289,27 +294,27 @@ fn meets_from<'a>(
     false
 }
 
-// The lowest slot from `from` on whose entry answers yes; 8 where none does.
+// The lowest slot whose entry answers yes, if one does.
 fn lowest_slot<'a>(
     base: &'a [u32; CELLS],
     size: &'a [u32; CELLS],
     enabled: &'a [bool; CELLS],
     writable: &'a [bool; CELLS],
     p: Part,
-    from: u32,
     what: Question,
-) -> u32
-    requires { ⌜ (p .0 < parts) × (from ≤ slots) ⌝ }
-    ensures { λ r. ⌜ r ≡ lowest (slotAsked slots (tableOf (now (base .entry)) (now (size .entry)) (now (enabled .entry)) (now (writable .entry))) (p .0) what) from slots ⌝ }
+) -> Slotted
+    requires { ⌜ p .0 < parts ⌝ }
+    ensures { λ r. ⌜ r ≡ slotted (lowest (slotAsked slots (tableOf (now (base .entry)) (now (size .entry)) (now (enabled .entry)) (now (writable .entry))) (p .0) what) 0 slots) ⌝ }
 {
-    let mut s = from;
+    let mut s = 0;
     while s < SLOTS {
-        if ask(peek(base, size, enabled, writable, p, Slot::at(s)), what) {
-            return s;
+        let slot = Slot::at(s);
+        if ask(peek(base, size, enabled, writable, p, slot), what) {
+            return Slotted::Is(slot);
         }
         s += 1;
     }
-    s
+    Slotted::Beyond
 }
 
 fn peek<'a>(
@@ -323,12 +328,35 @@ fn peek<'a>(
     requires { ⌜ (p .0 < parts) × (s .0 < slots) ⌝ }
     ensures { λ r. ⌜ r ≡ slotEntry slots (tableOf (now (base .entry)) (now (size .entry)) (now (enabled .entry)) (now (writable .entry))) (p .0) (s .0) ⌝ }
 {
-    let i = flat(p, s);
+    entry_at(base, size, enabled, writable, flat(p, s))
+}
+
+fn entry_at<'a>(
+    base: &'a [u32; CELLS],
+    size: &'a [u32; CELLS],
+    enabled: &'a [bool; CELLS],
+    writable: &'a [bool; CELLS],
+    i: usize,
+) -> Entry
+    requires { ⌜ i < cells ⌝ }
+    ensures { λ r. ⌜ r ≡ entryAt (tableOf (now (base .entry)) (now (size .entry)) (now (enabled .entry)) (now (writable .entry))) i ⌝ }
+{
     Entry {
         base: base[i],
         size: size[i],
         enabled: enabled[i],
         writable: writable[i],
+    }
+}
+
+fn no_entry() -> Entry
+    ensures { λ r. ⌜ r ≡ noEntry ⌝ }
+{
+    Entry {
+        base: 0,
+        size: 0,
+        enabled: false,
+        writable: false,
     }
 }
 

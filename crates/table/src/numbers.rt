@@ -1,7 +1,8 @@
-// A partition's number and a slot's number: each a type of its own, made within its bound by `new` and `at`, and joined in `flat` alone.
+// A partition's number and a slot's number: each a type of its own, made within its bound by `new` and `at`, read by `number`, joined in `flat`
+// alone. No other file can make one.
 ghost use mathlib.Core.Path.{_≡_};
 ghost use Prim.Native.Nat.{_<_};
-ghost use Rattle.table.specs.Numbers.{parts, slots, flatIndex, parted, slotted};
+ghost use Rattle.table.specs.Numbers.{parts, slots, flatIndex, parted, slotted, found};
 
 pub const PARTS: u32 = 4;
 
@@ -10,9 +11,9 @@ pub const SLOTS: u32 = 8;
 // The places of a table: a slot of each partition.
 pub const CELLS: usize = 32;
 
-pub struct Part(pub u32);
+pub struct Part(u32);
 
-pub struct Slot(pub u32);
+pub struct Slot(u32);
 
 pub enum Parted {
     Is(Part),
@@ -42,6 +43,12 @@ impl Part {
     {
         Part(n)
     }
+
+    pub fn number(self) -> u32
+        ensures { λ r. ⌜ r ≡ self .0 ⌝ }
+    {
+        self.0
+    }
 }
 
 impl Slot {
@@ -61,6 +68,24 @@ impl Slot {
         ensures { λ r. ⌜ r .0 ≡ n ⌝ }
     {
         Slot(n)
+    }
+
+    pub fn number(self) -> u32
+        ensures { λ r. ⌜ r ≡ self .0 ⌝ }
+    {
+        self.0
+    }
+}
+
+impl Slotted {
+    // Was there a slot?
+    pub(crate) fn found(self) -> bool
+        ensures { λ r. ⌜ r ≡ found self ⌝ }
+    {
+        match self {
+            Slotted::Is(_) => true,
+            Slotted::Beyond => false,
+        }
     }
 }
 

@@ -9,8 +9,8 @@ use Rattle.table.proofs.clashes_at.Tie as tie
 returns : tie.Need-returns
 unfolding clashAt
 returns c =
-    let e = c .before .before .before .before in
-    rw (sym (e .peek .ensures), c .before .before .before .if1 .taken, c .meets-from .ensures, c .before .range-of .ensures)
+    let e = c .before .before .before in
+    rw (sym (e .peek .ensures), c .before .before .if1 .taken, c .meets-after .ensures, c .before .range-of .ensures)
 
 returns-2 : tie.Need-returns-2
 unfolding clashAt
@@ -18,4 +18,4 @@ returns-2 c = rw (sym (c .before .peek .ensures), c .if1 .left)
 
 pub clashes-at-spec : {M : Type 1} → statement M
 clashes-at-spec =
-    tie.close (tie.spec (λ c κs. search needs) (λ c. search needs) (λ c κs. search needs) (λ c κs. search needs) returns returns-2)
+    tie.close (tie.spec (λ c κs. search needs) (λ c κs. search needs) (λ c κs. search needs) returns returns-2)

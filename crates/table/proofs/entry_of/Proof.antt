@@ -7,15 +7,23 @@ use Rattle.table.proofs.entry_of.Tie as tie
 
 returns : tie.Need-returns
 unfolding entryAnswer
-returns c = rw (lt-ltb _ _ (c .before .before .before .if1 .taken), lt-ltb _ _ (c .before .if2 .taken)) (c .peek .ensures)
+returns c =
+    let n = c .before .before .number in
+    rw (le-ltb _ _ (rw (n .ensures) at (c .before .if1 .taken))) (c .no-entry .ensures)
 
 returns-2 : tie.Need-returns-2
 unfolding entryAnswer
-returns-2 c = rw (lt-ltb _ _ (c .before .before .if1 .taken), le-ltb _ _ (c .if2 .left))
+returns-2 c =
+    let s = c .before .before in
+    rw (lt-ltb _ _ (rw (s .before .before .number .ensures) at (s .before .if1 .left)), le-ltb _ _ (rw (s .number2 .ensures) at (c .before .if2 .taken))) (c .no-entry2 .ensures)
 
 returns-3 : tie.Need-returns-3
 unfolding entryAnswer
-returns-3 c = rw (le-ltb _ _ (c .if1 .left))
+returns-3 c =
+    let s = c .before .before in
+    rw (lt-ltb _ _ (rw (s .before .before .number .ensures) at (s .before .if1 .left)), lt-ltb _ _ (rw (s .number2 .ensures) at (c .before .if2 .left))) (c .peek .ensures)
 
 pub entry-of-spec : {M : Type 1} → statement M
-entry-of-spec = tie.close (tie.spec (λ c κs. search needs) returns returns-2 returns-3)
+entry-of-spec =
+    tie.close
+    (tie.spec (λ c κs. search needs) (λ c κs. search needs) returns (λ c κs. search needs) (λ c κs. search needs) returns-2 (λ c κs. search needs) returns-3)

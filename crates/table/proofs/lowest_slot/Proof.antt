@@ -5,17 +5,18 @@ use native.Mathlib.Omega.{arith}
 use borrow.Author.Needs.{needs}
 use Rattle.laws.specs.Search.{lowest}
 use Rattle.laws.proofs.SearchLaws.{lowest-here, lowest-next, lowest-end}
-use Rattle.table.specs.Numbers.{slots}
+use Rattle.table.specs.Numbers.{slots, slotted}
 use Rattle.table.specs.Table.{slotEntry, tableOf}
 use Rattle.table.specs.Entries.{asked, slotAsked}
+use Rattle.table.proofs.NumbersLaws.{slotted-below, slotted-above}
 use Rattle.table.proofs.lowest_slot.Statement.{statement}
 use Rattle.table.proofs.lowest_slot.Tie as tie
 
 abbrev Inv-loop : tie.InvT-loop
-Inv-loop base size enabled writable p from what s₀ s = (s ≤ slots) × (lowest (slotAsked slots (tableOf base size enabled writable) (p .0) what) from slots ≡ lowest (slotAsked slots (tableOf base size enabled writable) (p .0) what) s slots)
+Inv-loop base size enabled writable p what s₀ s = (s ≤ slots) × (lowest (slotAsked slots (tableOf base size enabled writable) (p .0) what) 0 slots ≡ lowest (slotAsked slots (tableOf base size enabled writable) (p .0) what) s slots)
 
 abbrev μ-loop : tie.MeasureT-loop
-μ-loop base size enabled writable p from what s₀ s = slots - s
+μ-loop base size enabled writable p what s₀ s = slots - s
 
 -- this slot's answer
 answer : (c : tie.After-ask Inv-loop μ-loop) →
@@ -30,7 +31,8 @@ answer c =
 returns : tie.Need-returns Inv-loop μ-loop
 returns c =
     let t = c .before .before .before .before in
-    sym (t .before .loop .inv .1 ∙ lowest-here _ (t .loop-test .taken) (sym (answer (c .before)) ∙ c .if1 .taken))
+    let low = t .before .loop .inv .1 ∙ lowest-here _ (t .loop-test .taken) (sym (answer (c .before)) ∙ c .if1 .taken) in
+    sym (ap slotted low ∙ slotted-below _ _ (t .loop-test .taken) (c .before .before .before .at .ensures))
 
 loop-again : tie.Need-loop-again Inv-loop μ-loop
 loop-again c =
@@ -38,7 +40,7 @@ loop-again c =
     (search needs, t .before .loop .inv .1 ∙ lowest-next _ (t .loop-test .taken) (sym (answer (c .before)) ∙ c .if1 .left))
 
 returns-2 : tie.Need-returns-2 Inv-loop μ-loop
-returns-2 c = sym (c .before .loop .inv .1 ∙ lowest-end _ (c .loop-test .left))
+returns-2 c = sym (ap slotted (c .before .loop .inv .1 ∙ lowest-end _ (c .loop-test .left)) ∙ slotted-above _ (c .loop-test .left))
 
 pub lowest-slot-spec : {M : Type 1} → statement M
 lowest-slot-spec =
