@@ -9,10 +9,9 @@ use lib.ListN.{length, take}
 use Rattle.device.specs.declared.Pair.{Pair}
 use Rattle.device.specs.declared.Mpu.{Mpu}
 use Rattle.device.specs.declared.Write.{Write}
-use Rattle.device.specs.Registers.{slotAt}
+use Rattle.device.specs.Registers.{slotAt, allowed}
 use Rattle.device.specs.RegisterWrite.{writeRegister}
-use Rattle.device.proofs.ControlLaws.{Allowed, allowed-exactly}
-use Rattle.switch.specs.declared.Switch.{Switch}
+use Rattle.device.proofs.ControlLaws.{allowed-exactly}
 use Rattle.switch.specs.Switch.{fresh, steps}
 use Rattle.switch.specs.Applied.{writeAll, applied}
 use Rattle.switch.proofs.RunLaws.{taken, all-state}
@@ -43,10 +42,13 @@ module _ (n : ℕ) (few : n ≤ 4294967295) where
   -- ---- triples made by hand that are accepted
   module _ (m : Mpu) (whole : length (m .slots) ≡ n) (ws : List Write) (len : length ws ≡ n + 2) (e : applied n m ws .no ≡ 0) where
     ready : Ready n m
-    ready = record { held = allowed-exactly (m .control) .1 (accepted-exactly n few m ws .0 e .0); whole = whole }
+    ready = record { held = accepted-exactly n few m ws .0 e .0; whole = whole }
 
     sound : (i : ℕ) → i < n + 2 → Sound n (at ws i)
     sound = accepted-exactly n few m ws .0 e .1
+
+    may : allowed (m .control) ≡ true
+    may = allowed-exactly (m .control) .1 (ready .held)
 
     abbrev after : Mpu
     after = applied n m ws .mpu
@@ -98,9 +100,9 @@ module _ (n : ℕ) (few : n ≤ 4294967295) where
 
     -- none of the writes is refused, and as a switch of these triples it ends with the same MPU and the same log
     pub none-refused : (i : ℕ) → i < n + 2 → writeRegister n (writeAll n m (take i ws)) (at ws i) .no ≡ 0
-    none-refused = taken n few m (ready .held) ws len (λ i h. sound-exactly n few _ .1 (sound i h))
+    none-refused = taken n few m may ws len (λ i h. sound-exactly n few _ .1 (sound i h))
 
     pub as-steps : steps n (n + 2) (fresh n m ws) ≡ record { mpu = after; writes = ws; position = n + 2; log = ws }
     as-steps =
-        all-state n few m (ready .held) ws len (λ i h. sound-exactly n few _ .1 (sound i h))
+        all-state n few m may ws len (λ i h. sound-exactly n few _ .1 (sound i h))
         ∙ ap (λ (u : Mpu). record { mpu = u; writes = ws; position = n + 2; log = ws }) (sym written)
