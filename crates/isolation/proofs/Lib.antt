@@ -4,3 +4,4 @@ pub mod AnswerLaws
 pub mod DemandThree
 pub mod MapLaws
 pub mod Worked
+pub mod SentenceLaws

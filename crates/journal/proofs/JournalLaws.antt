@@ -15,7 +15,7 @@ use Rattle.text.specs.Line.{lines, logText}
 use Rattle.text.specs.Put.{over}
 use Rattle.text.proofs.PutLaws.{over-over}
 use Rattle.text.proofs.LogLaws.{log-last}
-use Rattle.journal.specs.Journal.{longestLog, tripleOf, writeText, logOf, putLog, afterLog}
+use Rattle.journal.specs.Journal.{tripleOf, writeText, logOf, putLog, afterLog}
 
 -- ---- an answer known in two ways
 pub one-place : {r : Put} {p q : ℕ} → r ≡ At p → r ≡ At q → p ≡ q
@@ -53,16 +53,16 @@ module _ (out : List ℕ) (at : ℕ) (log : List Write) where
       (rw (add-one, log-more log i d h, length-append, add-assoc), rw (add-one, log-more log i d h) (over-over out at s room t))
 
   -- the answer and the buffer where the longest log has room, and where it hasn't
-  pub log-fits : at + longestLog ≤ length out → (At (at + length (logOf log)) ≡ putLog out at log) × (over out at (logOf log) ≡ afterLog out at log)
+  pub log-fits : at + 600 ≤ length out → (At (at + length (logOf log)) ≡ putLog out at log) × (over out at (logOf log) ≡ afterLog out at log)
   unfolding putLog afterLog
   log-fits h = (rw (le-leb _ _ h), rw (le-leb _ _ h))
 
-  pub log-full : length out < at + longestLog → (Full ≡ putLog out at log) × (out ≡ afterLog out at log)
+  pub log-full : length out < at + 600 → (Full ≡ putLog out at log) × (out ≡ afterLog out at log)
   unfolding putLog afterLog
   log-full h = (rw (lt-leb _ _ h), rw (lt-leb _ _ h))
 
   -- a buffer keeps its length, so the place after the log is within it
-  pub log-within : {p : ℕ} → at + longestLog ≤ length out → putLog out at log ≡ At p → length (afterLog out at log) ≡ length out → p ≤ length out
+  pub log-within : {p : ℕ} → at + 600 ≤ length out → putLog out at log ≡ At p → length (afterLog out at log) ≡ length out → p ≤ length out
   log-within h e k =
       let f = log-fits h in
       let there = one-place e (sym (f .0)) in

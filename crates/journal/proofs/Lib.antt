@@ -1,2 +1,3 @@
 pub mod JournalLaws
 pub mod Determined
+pub mod Worked

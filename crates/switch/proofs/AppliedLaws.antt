@@ -15,8 +15,8 @@ use Rattle.laws.proofs.SearchLaws.{lowest-least}
 use Rattle.device.specs.Registers.{allowed}
 use Rattle.device.specs.RegisterWrite.{writeRegister}
 use Rattle.sequence.specs.Sequence.{triple}
-use Rattle.switch.specs.Switch.{noLog}
 use Rattle.switch.specs.Applied.{numberAt, isBad, firstBad, writeAll, appliedNo, applied}
+use Rattle.switch.proofs.StartNo.{zeros}
 
 module _ (n : ℕ) (m : Mpu) (ws : List Write) (i : ℕ) where
   pub write-next : i < length ws → writeAll n m (drop i ws) ≡ writeAll n (writeRegister n m (getD ws i (triple 0 0 0)) .mpu) (drop (i + 1) ws)
@@ -29,12 +29,12 @@ module _ (n : ℕ) (m : Mpu) (ws : List Write) (i : ℕ) where
 
 -- ---- the answer to triples made by hand, by what holds
 module _ (n : ℕ) (m : Mpu) (ws : List Write) where
-  pub applied-12 : allowed (m .control) ≡ false → applied n m ws ≡ record { no = 12; mpu = m; log = noLog n }
+  pub applied-12 : allowed (m .control) ≡ false → applied n m ws ≡ record { no = 12; mpu = m; log = zeros n }
   unfolding applied appliedNo
   applied-12 c = rw c
 
   module _ (c : allowed (m .control) ≡ true) where
-    pub applied-bad : firstBad n ws < n + 2 → applied n m ws ≡ record { no = numberAt n ws (firstBad n ws); mpu = m; log = noLog n }
+    pub applied-bad : firstBad n ws < n + 2 → applied n m ws ≡ record { no = numberAt n ws (firstBad n ws); mpu = m; log = zeros n }
     unfolding applied appliedNo
     applied-bad h =
         let low = lowest-least (isBad n ws) {i = 0} {m = n + 2} zero-le in

@@ -4,3 +4,7 @@ pub mod AppliedLaws
 pub mod Determined
 pub mod RunLaws
 pub mod NumberLaws
+pub mod HandLaws
+pub mod OneWriteLaws
+pub mod LastLaws
+pub mod Worked

@@ -27,9 +27,9 @@ use Rattle.switch.specs.declared.Switch.{Switch}
 use Rattle.switch.specs.declared.Started.{Started}
 use Rattle.switch.specs.declared.Stepped.{Stepped}
 use Rattle.switch.specs.declared.Did.the-variants.{Wrote}
-use Rattle.switch.specs.Switch.{noLog, fresh, advanced, started, stepped, steps, whole}
+use Rattle.switch.specs.Switch.{fresh, advanced, started, stepped, steps, whole}
 use Rattle.switch.specs.Applied.{writeAll}
-use Rattle.switch.proofs.StartNo.{start-0, start-accepted, whole-accepted}
+use Rattle.switch.proofs.StartNo.{zeros, start-0, start-accepted, whole-accepted}
 use Rattle.switch.proofs.StepLaws.{step-wrote}
 
 -- ---- one more write at the end
@@ -53,15 +53,15 @@ log-next ws zs z i h k =
 -- ---- triples that no MPU with an allowed control refuses
 module _ (n : ℕ) (few : n ≤ ctrl) (m : Mpu) (held : allowed (m .control) ≡ true) (ws : List Write) (len : length ws ≡ n + 2) (sound : (i : ℕ) → i < n + 2 → tripleNo n (getD ws i (triple 0 0 0)) ≡ 0) where
   abbrev pub state : ℕ → Switch
-  state i = record { mpu = writeAll n m (take i ws); writes = ws; position = i; log = take i ws ++ drop i (noLog n) }
+  state i = record { mpu = writeAll n m (take i ws); writes = ws; position = i; log = take i ws ++ drop i (zeros n) }
 
-  taken : (i : ℕ) → i < n + 2 → writeRegister n (state i .mpu) (getD ws i (triple 0 0 0)) .no ≡ 0
+  pub taken : (i : ℕ) → i < n + 2 → writeRegister n (state i .mpu) (getD ws i (triple 0 0 0)) .no ≡ 0
   unfolding writeRegister
   taken i h = held-allowed n (state i .mpu) _ (write-allowed n few m (take i ws) held) ∙ sound i h
 
   next : (i : ℕ) → i < n + 2 → advanced (state i) (writeRegister n (state i .mpu) (getD ws i (triple 0 0 0)) .mpu) ≡ state (suc i)
   next i h = λ k.
-      record { mpu = (sym (write-last n m (take i ws) (getD ws i (triple 0 0 0))) ∙ ap (writeAll n m) (sym (take-suc ws i (triple 0 0 0) (rw len h)))) k; writes = ws; position = add-one i k; log = log-next ws (noLog n) (triple 0 0 0) i (rw len h) (rw (length-replicate (n + 2) (triple 0 0 0)) h) k }
+      record { mpu = (sym (write-last n m (take i ws) (getD ws i (triple 0 0 0))) ∙ ap (writeAll n m) (sym (take-suc ws i (triple 0 0 0) (rw len h)))) k; writes = ws; position = add-one i k; log = log-next ws (zeros n) (triple 0 0 0) i (rw len h) (rw (length-replicate (n + 2) (triple 0 0 0)) h) k }
 
   pub step-state : (i : ℕ) → i < n + 2 → stepped n (state i) ≡ record { did = Wrote; switch = state (suc i) }
   step-state i h = step-wrote n (state i) h (taken i h) ∙ ap (λ (s : Switch). record { did = Wrote; switch = s }) (next i h)
@@ -79,7 +79,7 @@ module _ (n : ℕ) (few : n ≤ ctrl) (m : Mpu) (held : allowed (m .control) ≡
       steps-state (n + 2) 0 (omega arith)
       ∙ ap state (zero-add (n + 2))
       ∙ λ k.
-      record { mpu = writeAll n m (every k); writes = ws; position = n + 2; log = (ap (λ (l : List Write). l ++ drop (n + 2) (noLog n)) every ∙ ap (λ (l : List Write). ws ++ l) (drop-of-length-le (noLog n) {i = n + 2} (rw (length-replicate (n + 2) (triple 0 0 0)) (omega arith))) ∙ append-nil ws) k }
+      record { mpu = writeAll n m (every k); writes = ws; position = n + 2; log = (ap (λ (l : List Write). l ++ drop (n + 2) (zeros n)) every ∙ ap (λ (l : List Write). ws ++ l) (drop-of-length-le (zeros n) {i = n + 2} (rw (length-replicate (n + 2) (triple 0 0 0)) (omega arith))) ∙ append-nil ws) k }
     where
       every : take (n + 2) ws ≡ ws
       every = take-all (n + 2) ws (rw len (omega arith))

@@ -6,8 +6,8 @@ use Prim.Native.Nat.{ℕ, _+_, _-_, _≤_, _<_}
 use native.Mathlib.Nat.{add-assoc}
 use native.Mathlib.Omega.{arith}
 use borrow.Author.Tests.{le-leb, lt-leb}
-use lib.ListN.{length, take, drop, length-append, length-drop}
-use lib.Seq.{length-take-le, take-all, take-at, drop-append-add, drop-drop}
+use lib.ListN.{length, getD, take, drop, length-append, length-drop, List·getD-append}
+use lib.Seq.{length-take-le, take-all, take-at, drop-append-add, drop-drop, getD-append-add, getD-take, getD-drop}
 use Rattle.text.specs.declared.Put.the-variants.{At, Full}
 use Rattle.text.specs.Put.{over, put, after}
 
@@ -42,6 +42,28 @@ module _ (out : List ℕ) (at : ℕ) (s : List ℕ) where
     -- t straight after s is s and t at once
     pub over-over : (t : List ℕ) → over (over out at s) (at + length s) t ≡ over out at (s ++ t)
     over-over t = rw (take-over, drop-over (length t), length-append, append-assoc (take at out) s t, add-assoc)
+
+    -- byte by byte: s from the place on, every byte before it and behind it as it was
+    pub byte-before : (j d : ℕ) → j < at → getD (after out at s) j d ≡ getD out j d
+    byte-before j d l =
+        rw (← put-fits h .1)
+        (List·getD-append (take at out ++ s) (drop (at + length s) out) d j (rw head (omega arith))
+        ∙ List·getD-append (take at out) s d j (rw (length-take-le at out (omega arith)) l)
+        ∙ getD-take at out j d l)
+
+    pub byte-put : (j d : ℕ) → j < length s → getD (after out at s) (at + j) d ≡ getD s j d
+    byte-put j d l =
+        rw (← put-fits h .1)
+        (List·getD-append (take at out ++ s) (drop (at + length s) out) d (at + j) (rw head (omega arith))
+        ∙ ap (λ (k : ℕ). getD (take at out ++ s) (k + j) d) (sym (length-take-le at out (omega arith)))
+        ∙ getD-append-add (take at out) s j d)
+
+    pub byte-behind : (j d : ℕ) → getD (after out at s) (at + length s + j) d ≡ getD out (at + length s + j) d
+    byte-behind j d =
+        rw (← put-fits h .1)
+        (ap (λ (k : ℕ). getD (over out at s) (k + j) d) (sym head)
+        ∙ getD-append-add (take at out ++ s) (drop (at + length s) out) j d
+        ∙ getD-drop (at + length s) out j d)
 
 -- what stands before the end of t, s and t being put one after the other
 pub take-both : (out : List ℕ) (at : ℕ) (s t : List ℕ) → at + length s + length t ≤ length out → take (at + length s + length t) (over (over out at s) (at + length s) t) ≡ take at out ++ (s ++ t)

@@ -1,10 +1,13 @@
 -- Refused as the start is; else no write of the partition is refused, so that all its steps come to all its writes, each made and logged.
 -- Assumes nothing.
 use mathlib.Core.Path.{_≡_, sym, _∙_, ap}
+use mathlib.Core.Bool.{not}
 use mathlib.Core.List.{List}
 use native.Mathlib.Omega.{arith}
 use borrow.Author.Needs.{needs}
+use borrow.Author.Tests.{lt-ltb}
 use Rattle.device.specs.declared.Write.{Write}
+use Rattle.device.proofs.ControlLaws.{allowed-exactly}
 use Rattle.table.specs.Numbers.{slots}
 use Rattle.sequence.specs.Sequence.{writes}
 use Rattle.sequence.proofs.WritesLaws.{sequence-0}
@@ -37,7 +40,7 @@ returns-2 c =
     let same : s .start .result .switch .writes ≡ writes slots (a .t) (a .part) =
     ap (λ (r : Started). r .switch .writes) (s .start .ensures ∙ start-accepted slots (a .m) (a .t) (a .part) quiet) in
     (λ i. record { no = 0; switch = record { mpu = (c .write-all .ensures ∙ ap (writeAll slots (a .m)) same) i; writes = same i; position = 10; log = same i } })
-    ∙ sym (whole-state slots (omega arith) (a .m) (a .t) (a .part) (sequence-0 slots (a .t) (a .part) .1 (q .0, q .1)) (q .2))
+    ∙ sym (whole-state slots (omega arith) (a .m) (a .t) (a .part) (sequence-0 slots (a .t) (a .part) .1 (ap not (lt-ltb _ _ (q .0)), q .1)) (allowed-exactly _ .1 (q .2)))
 
 pub switch-to-partition-spec : {M : Type 1} → statement M
 switch-to-partition-spec = tie.close (tie.spec (λ c κs. search needs) returns (λ c κs. search needs) (λ c. search needs) returns-2)
