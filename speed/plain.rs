@@ -1,7 +1,7 @@
 // The plain side: the same operations as one writes them in Rust for speed, with references and nothing proved.
 // It follows the paper and not the proved code.
 
-use crate::proved::{MPU, REQUEST};
+use crate::proved::{FOUND, MPU, REQUEST};
 
 // ---- the device
 
@@ -17,14 +17,15 @@ struct Mpu {
     control: u32,
 }
 
+/// Each by its case; none of them where the held control is refused.
 #[derive(Clone, Copy)]
 enum Answer {
-    Private,
-    Unchecked,
-    Undefined,
-    Permitted,
-    Denied,
-    Refused,
+    Private = 1,
+    Unchecked = 2,
+    Undefined = 3,
+    Permitted = 4,
+    Denied = 5,
+    Refused = 6,
 }
 
 /// By AP: bits 0 and 1 the privileged right to read and to write, bits 4 and 5 the unprivileged, bit 7 undefined.
@@ -107,10 +108,16 @@ impl Slot {
     }
 }
 
-pub fn decide(mpu: &[u32], asks: &[u32], answers: &mut [u32]) {
+/// The number of the refusal, 0 where the accesses are answered.
+pub fn decide(mpu: &[u32], asks: &[u32], cases: &mut [u32]) -> u32 {
     let m = Mpu::of(mpu);
-    for (answer, ask) in answers.iter_mut().zip(asks.chunks_exact(2)) {
-        *answer = m.decide(ask[0], ask[1] & 1 == 1, ask[1] & 2 != 0) as u32;
+    for (case, ask) in cases.iter_mut().zip(asks.chunks_exact(2)) {
+        *case = m.decide(ask[0], ask[1] & 1 == 1, ask[1] & 2 != 0) as u32;
+    }
+    if allowed(m.control) {
+        0
+    } else {
+        12
     }
 }
 
@@ -147,38 +154,35 @@ impl Range {
     }
 }
 
-fn packed(no: u32, i: usize, j: usize) -> u64 {
-    no as u64 | (i as u64) << 4 | (j as u64) << 34
-}
-
 fn range(record: &[u32]) -> Range {
     Range { base: record[0], size: record[1] }
 }
 
-fn list(words: &[u32], count: usize) -> u64 {
+/// The number, and the places that it names.
+fn list(words: &[u32], count: usize) -> [u32; FOUND] {
     if words.len() / 3 < count {
-        return 8;
+        return [8, 0, 0];
     }
     let records = words.chunks_exact(3).take(count).map(range);
     for (i, r) in records.clone().enumerate() {
         let no = r.refusal();
         if no != 0 {
-            return packed(no, i, 0);
+            return [no, i as u32, 0];
         }
     }
     let mut rest = records.enumerate();
     while let Some((i, a)) = rest.next() {
         if let Some((j, _)) = rest.clone().find(|(_, b)| a.meets(b)) {
-            return packed(6, i, j);
+            return [6, i as u32, j as u32];
         }
     }
-    0
+    [0; FOUND]
 }
 
-pub fn lists(words: &[u32], count: u32, answers: &mut [u64]) {
+pub fn lists(words: &[u32], count: u32, answers: &mut [u32]) {
     let count = count as usize;
-    for (answer, words) in answers.iter_mut().zip(words.chunks_exact(3 * count)) {
-        *answer = list(words, count);
+    for (answer, words) in answers.chunks_exact_mut(FOUND).zip(words.chunks_exact(3 * count)) {
+        answer.copy_from_slice(&list(words, count));
     }
 }
 

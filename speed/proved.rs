@@ -3,7 +3,7 @@
 
 mod exported {
     extern "C" {
-        pub fn decide_many(mpu: *const u32, mpus: usize, asks: *const u32, asked: usize, answers: *mut u32, answered: usize);
+        pub fn decide_many(mpu: *const u32, mpus: usize, asks: *const u32, asked: usize, cases: *mut u32, cased: usize) -> u32;
         pub fn fill_many(requests: *const u32, requested: usize, numbers: *mut u32, numbered: usize);
         pub fn switch_many(
             requests: *const u32,
@@ -17,26 +17,27 @@ mod exported {
             last: *mut u32,
             lasts: usize,
         );
-        pub fn list_many(words: *const u32, worded: usize, count: u32, answers: *mut u64, answered: usize);
+        pub fn list_many(words: *const u32, worded: usize, count: u32, answers: *mut u32, answered: usize);
     }
 }
 
 /// The words of an MPU, and of a whole switch: the MPU, then the log.
 pub const MPU: usize = 17;
 pub const SWITCH: usize = MPU + 30;
-/// The words of a request.
+/// The words of a request, and of the answer about a list.
 pub const REQUEST: usize = 4;
+pub const FOUND: usize = 3;
 
 /// The exported function reads 0 beyond the end of a slice; a caller here has made a mistake.
 fn same(what: &str, has: usize, wants: usize) {
     assert!(has == wants, "{what}: {has} words, not {wants}");
 }
 
-pub fn decide(mpu: &[u32], asks: &[u32], answers: &mut [u32]) {
+pub fn decide(mpu: &[u32], asks: &[u32], cases: &mut [u32]) -> u32 {
     same("an MPU", mpu.len(), MPU);
-    same("accesses", asks.len(), 2 * answers.len());
+    same("accesses", asks.len(), 2 * cases.len());
     // The three slices are alive for the call, and the one that is written overlaps no other: Rust's own rule for `&mut`.
-    unsafe { exported::decide_many(mpu.as_ptr(), mpu.len(), asks.as_ptr(), asks.len(), answers.as_mut_ptr(), answers.len()) }
+    unsafe { exported::decide_many(mpu.as_ptr(), mpu.len(), asks.as_ptr(), asks.len(), cases.as_mut_ptr(), cases.len()) }
 }
 
 pub fn fill(requests: &[u32], numbers: &mut [u32]) {
@@ -65,8 +66,8 @@ pub fn switch(requests: &[u32], mpu: &[u32], parts: &[u32], numbers: &mut [u32],
     }
 }
 
-pub fn lists(words: &[u32], count: u32, answers: &mut [u64]) {
-    same("lists", words.len(), 3 * count as usize * answers.len());
-    assert!(count < 1 << 30, "a place in a list of {count} records does not fit an answer");
+pub fn lists(words: &[u32], count: u32, answers: &mut [u32]) {
+    same("answers", answers.len() % FOUND, 0);
+    same("lists", words.len(), 3 * count as usize * (answers.len() / FOUND));
     unsafe { exported::list_many(words.as_ptr(), words.len(), count, answers.as_mut_ptr(), answers.len()) }
 }

@@ -2,3 +2,5 @@ mod FilledLaws
 mod AfterLaws
 mod ListAtLaws
 mod Determined
+mod BoundaryLaws
+mod Worked

@@ -1,8 +1,8 @@
 -- The lists lie one after the other: what begins where the last one ended is the next. Beyond the words every list is empty. Assumes nothing.
-use mathlib.Core.Path.{_≡_, refl, sym, _∙_, ap}
+use mathlib.Core.Path.{_≡_, refl, sym, _∙_, ap, ap₂}
 use mathlib.Core.Bool.{Bool, true, false}
 use mathlib.Core.List.{List}
-use Prim.Native.Nat.{ℕ, _+_, _*_, _-_, _≤_, _<_}
+use Prim.Native.Nat.{ℕ, _+_, _*_, _-_, _/_, _%_, _≤_, _<_}
 use native.Mathlib.Nat.{mul-suc}
 use native.Mathlib.Numerals.{add-one}
 use native.Mathlib.Omega.{arith}
@@ -34,3 +34,10 @@ module _ (ws : List ℕ) (at n : ℕ) (within : at ≤ length ws) where
 
 pub list-next : (ws : List ℕ) (n i : ℕ) → drop n (drop (n * i) ws) ≡ drop (n * (i + 1)) ws
 list-next ws n i = drop-drop n (n * i) ws ∙ ap (λ (k : ℕ). drop k ws) (sym (mul-suc n i) ∙ ap (λ (k : ℕ). n * k) (sym (add-one i)))
+
+-- word m of answer i, where each has three
+pub third : (g : ℕ → ℕ → ℕ) (i m k : ℕ) → m < 3 → k ≡ 3 * i + m → g i m ≡ g (k / 3) (k % 3)
+third g i m k h e =
+    let whole : i ≡ k / 3 = omega arith in
+    let rest : m ≡ k % 3 = omega arith in
+    ap₂ g whole rest

@@ -1,23 +1,24 @@
 -- What words say, to the exported routines and from them.
 --   wordAt ws i        == word i; 0 beyond the end
---   mpuOf ws           == the MPU of eight pairs and the control
---   accessAt ws i      == access i: the address, then 1 for a write, with 2 more where it is privileged
---   requestAt ws i     == request i: partition, base, size, and 0 for read-only; partAt ws i == its partition
---   listAt ws n i      == list i, where each has n records
+--   mpuOf ws           == the MPU of 17 words: eight pairs (pairAt ws i: RBAR, then RASR), then the control
+--   accessAt ws i      == access i, of 2 words: the address, then 1 for a write (kindOf), with 2 more where it is privileged
+--   requestAt ws i     == request i, of 4 words: the partition (partAt ws i), base, size, and 0 for read-only
+--   listAt ws n i      == list i, where each has n records of 3 words
 --   endOf len at n     == where n words that begin at a place end: there, or with the words
---   answerNo, judgedNo == the answer about an access, and about a list, as a number
---   packed k i j       == a number and two places side by side: 4 bits, 30 and 30
---   switchWord s k     == word k of a switch: its MPU's 17, then its log's 30
+--   heldNo m           == the number of every decision of an MPU: 12 where its control is not 0, 1, 4 or 5
+--   caseNo a           == the case of an answer: 1 private bus, 2 unchecked, 3 undefined, 4 permitted, 5 denied; 6, for none, where it is refused
+--   foundWord j k      == word k of a list's answer, of 3 words: the number of the paper, then the places that it names; 0 where there is none
+--   foundWords f d     == the words d with an answer, by f, in each three that are whole
+--   switchWord s k     == word k of a switch, of 47 words: its MPU's 17, then for each write of its log 3 (writeWord w k: register, RBAR, RASR); 0 beyond
 use mathlib.Core.Bool.{Bool, not}
-use mathlib.Core.List.{List}
+use mathlib.Core.List.{List, _∷_, _++_}
 use Prim.Native.Nat.{ℕ, _+_, _*_, _-_, _/_, _%_}
 use lib.Dec.{ltb, eqb}
-use lib.ListN.{getD, take, drop}
+use lib.ListN.{length, getD, take, drop}
 use Rattle.laws.specs.Pick.{pick}
 use Rattle.laws.specs.Listed.{listed}
 use Rattle.region.specs.declared.Judged.{Judged}
-use Rattle.region.specs.declared.Judged.the-variants.{Valid, Short, Unsound, Pair}
-use Rattle.region.specs.List.{wordsEach}
+use Rattle.region.specs.List.{wordsEach, numberOf, placesOf}
 use Rattle.device.specs.declared.Pair.{Pair as Slot}
 use Rattle.device.specs.declared.Mpu.{Mpu}
 use Rattle.device.specs.declared.Write.{Write}
@@ -26,7 +27,7 @@ use Rattle.device.specs.declared.Kind.the-variants.{Read, Write as Writing}
 use Rattle.device.specs.declared.Access.{Access}
 use Rattle.device.specs.declared.Answer.{Answer}
 use Rattle.device.specs.declared.Answer.the-variants.{Private, Unchecked, Undefined, Permitted, Denied, Refused}
-use Rattle.device.specs.Registers.{slotCount, slotAt}
+use Rattle.device.specs.Registers.{slotCount, slotAt, allowed}
 use Rattle.table.specs.declared.Request.{Request}
 use Rattle.sequence.specs.Sequence.{triple}
 use Rattle.switch.specs.declared.Switch.{Switch}
@@ -47,13 +48,16 @@ abbrev pub accessAt : List ℕ → ℕ → Access
 accessAt ws i =
     record { address = wordAt ws (2 * i); kind = kindOf (wordAt ws (2 * i + 1)); privileged = eqb (wordAt ws (2 * i + 1) / 2 % 2) 1 }
 
-abbrev pub answerNo : Answer → ℕ
-answerNo Private = 0
-answerNo Unchecked = 1
-answerNo Undefined = 2
-answerNo Permitted = 3
-answerNo Denied = 4
-answerNo Refused = 5
+abbrev pub heldNo : Mpu → ℕ
+heldNo m = pick (allowed (m .control)) 0 12
+
+abbrev pub caseNo : Answer → ℕ
+caseNo Private = 1
+caseNo Unchecked = 2
+caseNo Undefined = 3
+caseNo Permitted = 4
+caseNo Denied = 5
+caseNo Refused = 6
 
 abbrev pub partAt : List ℕ → ℕ → ℕ
 partAt ws i = wordAt ws (4 * i)
@@ -68,16 +72,12 @@ listAt ws n i = take (wordsEach * n) (drop (wordsEach * n * i) ws)
 abbrev pub endOf : ℕ → ℕ → ℕ → ℕ
 endOf len at n = pick (ltb (len - at) n) len (at + n)
 
-abbrev pub packed : ℕ → ℕ → ℕ → ℕ
-packed k i j = k % 16 + 16 * (i % 1073741824) + 17179869184 * (j % 1073741824)
+abbrev pub foundWord : Judged → ℕ → ℕ
+foundWord j k = getD (numberOf j ∷ placesOf j) k 0
 
-abbrev pub judgedNo : Judged → ℕ
-judgedNo Valid = 0
-judgedNo Short = 8
-judgedNo (Unsound at k) = packed k at 0
-judgedNo (Pair i j) = packed 6 i j
+abbrev pub foundWords : (ℕ → ℕ) → List ℕ → List ℕ
+foundWords f d = let n = 3 * (length d / 3) in listed f 0 n ++ drop n d
 
--- the words of a write: the register, RBAR, RASR
 abbrev pub writeWord : Write → ℕ → ℕ
 writeWord w k = pick (eqb k 0) (w .rnr) (pick (eqb k 1) (w .rbar) (w .rasr))
 

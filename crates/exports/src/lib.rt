@@ -8,16 +8,18 @@ use device::Pair;
 use device::Write;
 use region::Judged;
 use switch::Switch;
+use table::Added;
 use table::Request;
 use table::Table;
 ghost use mathlib.Core.Path.{_≡_};
-ghost use Prim.Native.Nat.{_^_, _<_, _≤_};
-ghost use lib.ListN.{length};
+ghost use Prim.Native.Nat.{_+_, _^_, _<_, _≤_};
+ghost use lib.ListN.{length, set};
 ghost use Rattle.laws.specs.Listed.{listed};
 ghost use Rattle.table.specs.Numbers.{slots};
+ghost use Rattle.table.specs.Builder.{tryAdd};
 ghost use Rattle.switch.specs.Switch.{noLog, fresh};
-ghost use Rattle.exports.specs.Words.{wordAt, mpuOf, accessAt, kindOf, answerNo, requestAt, endOf, packed, judgedNo, switchWord};
-ghost use Rattle.exports.specs.Many.{decisionAt, addedAt, tableBy, switchAfter, switchedAt, foundAt};
+ghost use Rattle.exports.specs.Words.{wordAt, mpuOf, accessAt, kindOf, heldNo, caseNo, partAt, requestAt, endOf, foundWord, foundWords, switchWord};
+ghost use Rattle.exports.specs.Many.{caseAt, addedAt, tableBy, switchAfter, switchedAt, foundWordAt};
 
 // The words of a request: partition, base, size, and 0 for read-only.
 const REQUEST: usize = 4;
@@ -30,22 +32,32 @@ const LOG_AT: usize = 17;
 
 const LOG_END: usize = 47;
 
-// A number and two places lie side by side in 64 bits: 4, 30 and 30.
-const NUMBERS: u64 = 16;
+// The words of a list's answer: the number, then the places i and j.
+const FOUND: usize = 3;
 
-const PLACES: u64 = 1073741824;
+// What is found of one list.
+struct Found {
+    no: u32,
+    i: u32,
+    j: u32,
+}
 
-// What does this MPU answer to each access? An access is two words: the address, then 1 for a write, with 2 more where it is privileged.
+// What does this MPU answer to each access? It gives the number: 0, or 12 where the held control is not 0, 1, 4 or 5.
+// An access is two words: the address, then 1 for a write, with 2 more where it is privileged.
+// Its case is one word: 1 private bus, 2 unchecked, 3 undefined, 4 permitted, 5 denied; 6, for none, where the number is 12.
 #[no_mangle]
-pub extern "C" fn decide_many(mpu: &[u32], asks: &[u32], answers: &mut [u32])
-    ensures { λ _. ⌜ now (answers .exit) ≡ listed (decisionAt (now (mpu .entry)) (now (asks .entry))) 0 (length (now (answers .entry))) ⌝ }
+pub extern "C" fn decide_many(mpu: &[u32], asks: &[u32], cases: &mut [u32]) -> u32
+    ensures number { λ r. ⌜ r ≡ heldNo (mpuOf (now (mpu .entry))) ⌝ }
+    ensures cases { λ _. ⌜ now (cases .exit) ≡ listed (caseAt (now (mpu .entry)) (now (asks .entry))) 0 (length (now (cases .entry))) ⌝ }
 {
     let m = mpu_of(mpu);
+    let no = held_no(m);
     let mut i = 0;
-    while i < answers.len() {
-        answers[i] = answer_no(device::decide(m, access_at(asks, i)));
+    while i < cases.len() {
+        cases[i] = case_no(device::decide(m, access_at(asks, i)));
         i += 1;
     }
+    no
 }
 
 // What does the builder say to each request, one after the other from the empty table on?
@@ -56,7 +68,7 @@ pub extern "C" fn fill_many(requests: &[u32], numbers: &mut [u32])
     let mut t = Table::new();
     let mut i = 0;
     while i < numbers.len() {
-        let done = t.try_add_region(word(requests, REQUEST * i), request_at(requests, i));
+        let done = add_at(t, requests, i);
         numbers[i] = done.no;
         let next = done.table;
         t = next;
@@ -81,16 +93,18 @@ pub extern "C" fn switch_many(
 }
 
 // What is each list found to be? The lists, of `count` records each, lie one after the other.
+// An answer is three words: the number, then the places that it names: none, the record, or the pair; 0 where there is none. A word left over stays.
 #[no_mangle]
-pub extern "C" fn list_many(words: &[u32], count: u32, answers: &mut [u64])
-    ensures { λ _. ⌜ now (answers .exit) ≡ listed (foundAt (now (words .entry)) count) 0 (length (now (answers .entry))) ⌝ }
+pub extern "C" fn list_many(words: &[u32], count: u32, answers: &mut [u32])
+    ensures { λ _. ⌜ now (answers .exit) ≡ foundWords (foundWordAt (now (words .entry)) count) (now (answers .entry)) ⌝ }
 {
     let each = 3 * (count as usize);
     let mut at = 0;
     let mut i = 0;
-    while i < answers.len() {
+    while i < answers.len() / FOUND {
         let end = end_of(words.len(), at, each);
-        answers[i] = judged_no(region::validate_region_set(&words[at..end], count));
+        let found = found_of(region::validate_region_set(&words[at..end], count));
+        put_found(found, answers, FOUND * i);
         at = end;
         i += 1;
     }
@@ -142,17 +156,32 @@ fn kind_of(how: u32) -> Kind
     }
 }
 
-fn answer_no(a: Answer) -> u32
-    ensures { λ r. ⌜ r ≡ answerNo a ⌝ }
+// The number of every decision of one MPU: no access changes it.
+fn held_no(m: Mpu) -> u32
+    ensures { λ r. ⌜ r ≡ heldNo m ⌝ }
+{
+    if device::is_allowed(m.control) { 0 } else { 12 }
+}
+
+fn case_no(a: Answer) -> u32
+    ensures { λ r. ⌜ r ≡ caseNo a ⌝ }
 {
     match a {
-        Answer::Private => 0,
-        Answer::Unchecked => 1,
-        Answer::Undefined => 2,
-        Answer::Permitted => 3,
-        Answer::Denied => 4,
-        Answer::Refused => 5,
+        Answer::Private => 1,
+        Answer::Unchecked => 2,
+        Answer::Undefined => 3,
+        Answer::Permitted => 4,
+        Answer::Denied => 5,
+        Answer::Refused => 6,
     }
+}
+
+// What the builder says to one of the requests.
+fn add_at(t: Table, requests: &[u32], i: usize) -> Added
+    requires { ⌜ i < 2 ^ 61 ⌝ }
+    ensures { λ r. ⌜ r ≡ tryAdd slots t (partAt (now (requests .entry)) i) (requestAt (now (requests .entry)) i) ⌝ }
+{
+    t.try_add_region(word(requests, REQUEST * i), request_at(requests, i))
 }
 
 fn request_at(requests: &[u32], i: usize) -> Request
@@ -173,7 +202,7 @@ fn table_of(requests: &[u32]) -> Table
     let mut t = Table::new();
     let mut i = 0;
     while i < requests.len() / REQUEST {
-        let done = t.try_add_region(word(requests, REQUEST * i), request_at(requests, i));
+        let done = add_at(t, requests, i);
         let next = done.table;
         t = next;
         i += 1;
@@ -251,23 +280,24 @@ fn switch_word(s: Switch, k: usize) -> u32
     }
 }
 
-fn judged_no(j: Judged) -> u64
-    ensures { λ r. ⌜ r ≡ judgedNo j ⌝ }
+fn found_of(j: Judged) -> Found
+    ensures { λ r. ⌜ (r .no ≡ foundWord j 0) × (r .i ≡ foundWord j 1) × (r .j ≡ foundWord j 2) ⌝ }
 {
     match j {
-        Judged::Valid => 0,
-        Judged::Short => 8,
-        Judged::Unsound { at, no } => packed(no, at, 0),
-        Judged::Pair { i, j } => packed(6, i, j),
+        Judged::Valid => Found { no: 0, i: 0, j: 0 },
+        Judged::Short => Found { no: 8, i: 0, j: 0 },
+        Judged::Unsound { at, no } => Found { no, i: at, j: 0 },
+        Judged::Pair { i, j } => Found { no: 6, i, j },
     }
 }
 
-fn packed(no: u32, i: u32, j: u32) -> u64
-    ensures { λ r. ⌜ r ≡ packed no i j ⌝ }
+fn put_found(f: Found, out: &mut [u32], k: usize)
+    requires { ⌜ k + 3 ≤ length (now out) ⌝ }
+    ensures { λ _. ⌜ now (out .exit) ≡ set (set (set (now (out .entry)) k (f .no)) (k + 1) (f .i)) (k + 2) (f .j) ⌝ }
 {
-    (no as u64) % NUMBERS
-        + NUMBERS * ((i as u64) % PLACES)
-        + NUMBERS * PLACES * ((j as u64) % PLACES)
+    out[k] = f.no;
+    out[k + 1] = f.i;
+    out[k + 2] = f.j;
 }
 
 // Where a part of n words ends that begins at a place: there, or with the words.

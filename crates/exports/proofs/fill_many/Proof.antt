@@ -6,6 +6,7 @@ use lib.ListN.{length}
 use Rattle.table.specs.declared.Added.{Added}
 use Rattle.table.specs.Numbers.{slots}
 use Rattle.table.specs.Builder.{tryAdd}
+use Rattle.exports.specs.Words.{partAt, requestAt}
 use Rattle.exports.specs.Many.{tableAfter, addedAt}
 use Rattle.exports.proofs.FilledLaws.{Filled, filled-none, filled-next, filled-all}
 use Rattle.exports.proofs.AfterLaws.{table-none, table-next}
@@ -21,14 +22,14 @@ abbrev μ-loop : tie.MeasureT-loop
 loop-again : tie.Need-loop-again Inv-loop μ-loop
 loop-again c =
     let d = c .before in
-    let turn = d .before .before .before in
+    let turn = d .before in
     let l = turn .before in
     let a = l .before .before .before .before .args in
-    let e : d .try-add-region .result ≡ addedAt (a .requests .now) (l .loop .i) =
-    d .try-add-region .ensures ∙ (λ k. tryAdd slots (l .loop .inv .1 k) (d .before .before .word .ensures k) (d .before .request-at .ensures k)) in
-    (filled-next (l .loop .inv .0) (turn .loop-test .taken) (ap (λ (r : Added). r .no) e), ap (λ (r : Added). r .table) e ∙ table-next (a .requests .now) (l .loop .i))
+    let ws = a .requests .now in
+    let e : d .add-at .result ≡ addedAt ws (l .loop .i) = d .add-at .ensures ∙ (λ k. tryAdd slots (l .loop .inv .1 k) (partAt ws (l .loop .i)) (requestAt ws (l .loop .i))) in
+    (filled-next (l .loop .inv .0) (turn .loop-test .taken) (ap (λ (r : Added). r .no) e), ap (λ (r : Added). r .table) e ∙ table-next ws (l .loop .i))
 
 pub fill-many-spec : {M : Type 1} → statement M
 fill-many-spec =
     tie.close
-    (tie.spec Inv-loop μ-loop (λ c κs. search needs) (λ c. (filled-none, c .new .ensures ∙ table-none _)) (λ c. search needs) (λ c κs. search needs) (λ c κs. search needs) (λ c κs. search needs) (λ c. search needs) (λ c. search needs) (λ c. search needs) (λ c. search needs) loop-again (λ c. search needs) (λ c. filled-all (c .before .loop .inv .0) (c .loop-test .left)))
+    (tie.spec Inv-loop μ-loop (λ c κs. search needs) (λ c. (filled-none, c .new .ensures ∙ table-none _)) (λ c κs. search needs) (λ c. search needs) (λ c. search needs) (λ c. search needs) (λ c. search needs) loop-again (λ c. search needs) (λ c. filled-all (c .before .loop .inv .0) (c .loop-test .left)))

@@ -7,6 +7,7 @@ use lib.ListN.{length}
 use Rattle.table.specs.declared.Added.{Added}
 use Rattle.table.specs.Numbers.{slots}
 use Rattle.table.specs.Builder.{tryAdd}
+use Rattle.exports.specs.Words.{partAt, requestAt}
 use Rattle.exports.specs.Many.{tableAfter, addedAt}
 use Rattle.exports.proofs.AfterLaws.{table-none, table-next}
 use Rattle.exports.proofs.table_of.Statement.{statement}
@@ -21,11 +22,11 @@ abbrev μ-loop : tie.MeasureT-loop
 loop-again : tie.Need-loop-again Inv-loop μ-loop
 loop-again c =
     let d = c .before in
-    let l = d .before .before .before .before in
+    let l = d .before .before in
     let a = l .before .before .before .args in
-    let e : d .try-add-region .result ≡ addedAt (a .requests .now) (l .loop .i) =
-    d .try-add-region .ensures ∙ (λ k. tryAdd slots (l .loop .inv .1 k) (d .before .before .word .ensures k) (d .before .request-at .ensures k)) in
-    (search needs, ap (λ (r : Added). r .table) e ∙ table-next (a .requests .now) (l .loop .i))
+    let ws = a .requests .now in
+    let e : d .add-at .result ≡ addedAt ws (l .loop .i) = d .add-at .ensures ∙ (λ k. tryAdd slots (l .loop .inv .1 k) (partAt ws (l .loop .i)) (requestAt ws (l .loop .i))) in
+    (search needs, ap (λ (r : Added). r .table) e ∙ table-next ws (l .loop .i))
 
 returns : tie.Need-returns Inv-loop μ-loop
 returns c =
@@ -37,4 +38,4 @@ returns c =
 pub table-of-spec : {M : Type 1} → statement M
 table-of-spec =
     tie.close
-    (tie.spec Inv-loop μ-loop (λ c κs. search needs) (λ c. (search needs, c .new .ensures ∙ table-none _)) (λ c. search needs) (λ c κs. search needs) (λ c κs. search needs) (λ c κs. search needs) (λ c. search needs) (λ c. search needs) loop-again returns)
+    (tie.spec Inv-loop μ-loop (λ c κs. search needs) (λ c. (search needs, c .new .ensures ∙ table-none _)) (λ c κs. search needs) (λ c. search needs) (λ c. search needs) loop-again returns)
