@@ -1,4 +1,4 @@
-// Two forms that work on what they are lent: an MPU record, written in place, and a list of region records, only read. Both are thin: what decides is by value.
+// Two forms that work on what they are lent: an MPU record, of which one place is written, and a list of region records, only read. Both are thin: what decides is by value.
 use device::Mpu;
 use device::Write;
 use device::Written;
@@ -36,11 +36,19 @@ pub struct Scan {
 }
 
 // Make this write in the MPU that I lend you; if you refuse it, leave the MPU alone.
+// The write by value decides; of its record the one slot that is named is stored, or the control.
 pub fn write_lent(m: &mut Mpu, w: Write) -> u32
     ensures { λ r. ⌜ (r ≡ writeRegister slotCount (now (m .entry)) w .no) × (now (m .exit) ≡ writeRegister slotCount (now (m .entry)) w .mpu) ⌝ }
 {
     let r = device::write_register(*m, w);
-    *m = r.mpu;
+    if r.no == 0 {
+        let i = w.rnr as usize;
+        if i < device::SLOTS {
+            m.slots[i] = r.mpu.slots[i];
+        } else {
+            m.control = r.mpu.control;
+        }
+    }
     r.no
 }
 
