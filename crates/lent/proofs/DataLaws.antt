@@ -1,7 +1,7 @@
 -- Data that owns nothing: a record, a number, a judgement. Each has one word in the machine, and whoever has the word has all of it. So a walk needs of such a type
 -- only what `Data` lists, and the types of this crate are listed here once. Assumes what `Given` says.
 --   word x                          == the machine's word for x; `words x` is it as a list
---   mpu, slot, write, written       == an MPU, one slot of it, a register write, and its answer
+--   mpu, write, written             == an MPU, a register write, and its answer
 --   region, scan, judged, number    == a record of a list, a scan of it, its judgement, and a u32
 --   of-array D n                    == n of D
 --   has                             == a step of a walk: what is plain is had for nothing
@@ -20,13 +20,11 @@ use denote.Plain.{uint-tells, uint-makes, uint-lawful}
 use denote.Builtin.{u32}
 use denote.Steps.{only, owned}
 use denote.Struct.Declared
-use denote.Struct.Struct.{Plains, struct-makes, struct-lawful}
+use denote.Struct.Struct.{Plains}
 use denote.Struct.Laws as struct
 use denote.Enum.Laws as enum
 use Rattle.device.proofs.Mpu as Mpu
 use Rattle.device.proofs.Mpu.Laws as Mpu′
-use Rattle.device.proofs.Pair as Pair
-use Rattle.device.proofs.Pair.Laws as Pair′
 use Rattle.device.proofs.Write as Write
 use Rattle.device.proofs.Write.Laws as Write′
 use Rattle.device.proofs.Written as Written
@@ -60,16 +58,6 @@ module _ {M : Type 1} {𝓤 : URA M} {H : Heap 𝓤} {A : Atoms 𝓤} (W : Given
 
   abbrev pub mpu : Data 𝓤 H A
   mpu = of-struct Mpu.the-type Mpu′.the-laws Mpu′.the-plain
-
-  -- in an MPU's slots each is a tuple of its two values
-  abbrev pub slot : Data 𝓤 H A
-  slot = record {
-    row = Pair.the-field .row;
-    word = struct.tuple-val Pair.the-type Pair′.the-laws;
-    tells = struct.tuple-tells Pair.the-type Pair′.the-laws;
-    makes = struct-makes 𝓤 H A (Declared.shape Pair.the-type) Pair′.the-plain;
-    lawful = struct-lawful 𝓤 H A W (Declared.shape Pair.the-type) (struct.lawfuls 𝓤 H A W (Pair.the-type .parts) Pair′.the-laws);
-  }
 
   abbrev pub write : Data 𝓤 H A
   write = of-struct Write.the-type Write′.the-laws Write′.the-plain
