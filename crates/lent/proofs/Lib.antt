@@ -1,9 +1,12 @@
 pub mod DataLaws
-pub mod GivenLaws
 pub mod Determined
+pub mod ElementLaws
+pub mod GivenLaws
 pub mod LoanLaws
+pub mod LocalLaws
 pub mod ScanLaws
 pub mod SliceLaws
+pub mod StoreLaws
 pub mod TurnLaws
 pub mod WalkLaws
 pub mod WordsLaws

@@ -1,5 +1,6 @@
-// Two forms that work on what they are lent: an MPU record, written in place, and a list of region records, only read. Both are thin: what decides is by value.
+// Two forms that work on what they are lent: an MPU record, of which one place is written, and a list of region records, only read. Both are thin: what decides is by value.
 use device::Mpu;
+use device::Pair;
 use device::Write;
 use device::Written;
 use region::Judged;
@@ -36,11 +37,22 @@ pub struct Scan {
 }
 
 // Make this write in the MPU that I lend you; if you refuse it, leave the MPU alone.
+// The write by value decides; what is accepted is stored in its one place, a slot or the control.
 pub fn write_lent(m: &mut Mpu, w: Write) -> u32
     ensures { λ r. ⌜ (r ≡ writeRegister slotCount (now (m .entry)) w .no) × (now (m .exit) ≡ writeRegister slotCount (now (m .entry)) w .mpu) ⌝ }
 {
     let r = device::write_register(*m, w);
-    *m = r.mpu;
+    if r.no == 0 {
+        let i = w.rnr as usize;
+        if i < device::SLOTS {
+            m.slots[i] = Pair {
+                rbar: w.rbar,
+                rasr: w.rasr,
+            };
+        } else {
+            m.control = w.rasr;
+        }
+    }
     r.no
 }
 

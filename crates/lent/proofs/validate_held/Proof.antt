@@ -40,7 +40,8 @@ use Rattle.region.proofs.Judged as judged-type
 use Rattle.lent.proofs.MpuRegion as region-type
 use Rattle.lent.proofs.DataLaws.{Data, words, of-array, region, judged, number, has}
 use Rattle.lent.proofs.LoanLaws.{Records, lends-list, list-back}
-use Rattle.lent.proofs.WalkLaws.{typeOf, itself, value, two, let-go, asked-lent, calls, met-by}
+use Rattle.lent.proofs.LocalLaws.{typeOf, in-order, let-go, itself, value, two}
+use Rattle.lent.proofs.WalkLaws.{asked-lent, calls, met-by}
 use Rattle.lent.proofs.validate_records as slice
 use Rattle.lent.proofs.validate_records.Symbol as callee
 use Rattle.lent.proofs.validate_records.Met as callee-proved
@@ -115,7 +116,7 @@ module _ {M : Type 1} {𝓤 : URA M} {H : Heap 𝓤} {A : Atoms 𝓤} (W : Given
           qed W (‵ ftrue ∷ ‵ (owns (list .row ∷ number W .row ∷ []) (ys, (c, tt)) passed) ∷ []) ∵ drop ! $ drop ! $ enter ! C Λ code.function (list .word ys ∷ vint w32 c ∷ []) _ $
           alloc1 ! (λ l₀. alloc1 ! (λ l₁. alloc1 ! (λ l₂. alloc1 ! (λ l₃. alloc1 ! (λ l₄. alloc1 ! (λ l₅. alloc0 ! $ params1 ! $
           pass1 ! (init ! 8 refl (list .lawful .typed ys _ is-list .0)) $ pass1 ! (init ! 6 refl (number W .lawful .typed c _ is-count .0)) $ pass0 ! $
-          move ! (10 ∷ 11 ∷ 8 ∷ 9 ∷ 6 ∷ 7 ∷ 4 ∷ 5 ∷ 2 ∷ 3 ∷ []) $
+          move ! (in-order 5) $
           assigns ! (of-opd ! (value ! 2 refl)) (itself !) (init ! 6 refl (list .lawful .typed ys _ is-list .0)) $
           assigns ! (addr ! (itself !)) (itself !) (init ! 8 refl (tt, tt)) $
           assigns ! (agg ! (two ! (value ! 8 refl) (lit ! tt))) (itself !) (init ! 10 refl (tt, (tt, (record { fits = lit< tt }, tt)))) $

@@ -41,7 +41,8 @@ use Rattle.lent.proofs.MpuRegion.Laws as region-laws
 use Rattle.lent.proofs.DataLaws.{scan, words, region, number}
 use Rattle.lent.proofs.ScanLaws.{right-begun}
 use Rattle.lent.proofs.SliceLaws.{shows-list}
-use Rattle.lent.proofs.WalkLaws.{itself, value, part-of, two, asked, calls, met-by}
+use Rattle.lent.proofs.LocalLaws.{in-order, itself, value, part-of, two}
+use Rattle.lent.proofs.WalkLaws.{asked, calls, met-by}
 use Rattle.lent.proofs.begin as begin
 use Rattle.lent.proofs.begin.Symbol as begin-code
 use Rattle.lent.proofs.begin.Met as begin-proved
@@ -71,7 +72,7 @@ module _ {M : Type 1} {𝓤 : URA M} {H : Heap 𝓤} {A : Atoms 𝓤} (W : Given
         qed W ((‵ (flft κ q) ⊛ ‵ ftrue) ∷ ‵ (owns (ShrSlice (named 0) κ region-type.the-row ∷ u32 ∷ []) (x, (c, tt)) passed) ∷ []) ∵ enter ! (𝓣 .C) (𝓣 .Λ) code.function (only (passed .0) ∷ vint w32 c ∷ []) _ $
         alloc1 ! (λ l₀. alloc1 ! (λ l₁. alloc1 ! (λ l₂. alloc1 ! (λ l₃. alloc1 ! (λ l₄. alloc1 ! (λ l₅. alloc1 ! (λ l₆. alloc1 ! (λ l₇. alloc1 ! (λ l₈. alloc0 ! $ params1 ! $
         pass1 ! (init ! 14 refl (tt, (tt, (record { fits = room .0 }, tt)))) $ pass1 ! (init ! 12 refl (tt, record { fits = is-count .1 })) $ pass0 ! $
-        move ! (18 ∷ 19 ∷ 16 ∷ 17 ∷ 14 ∷ 15 ∷ 12 ∷ 13 ∷ 10 ∷ 11 ∷ 8 ∷ 9 ∷ 6 ∷ 7 ∷ 4 ∷ 5 ∷ 2 ∷ 3 ∷ []) $ split ! $ move ! (1 ∷ []) $ drop ! $ move ! (1 ∷ []) $ fsplit ! $ move ! (1 ∷ []) $ drop ! $
+        move ! (in-order 9) $ split ! $ move ! (1 ∷ []) $ drop ! $ move ! (1 ∷ []) $ fsplit ! $ move ! (1 ∷ []) $ drop ! $
         shows-list W (region W) κ q x tt (copy region-type.the-type region-laws.the-copy 𝓤 H A W) (λ p.
         assigns ! (of-opd ! (part-of ! 7 refl (sub ! 1 refl (whole !)))) (itself !) (init ! 13 refl (tt, record { fits = room .0 })) $
         use0 W (raw (Begin .pre call)) (asked W begin.ended (begin.clauses 𝓤 H A memory run) call (uint-makes 𝓤 H A W w64, (number W .makes, tt)) ((refl, room .0), (is-count, tt)) (id⊢ 𝓤 _) (id⊢ 𝓤 _)) $

@@ -44,7 +44,8 @@ use Rattle.device.proofs.Written as written-type
 use Rattle.device.proofs.Written.Laws as written-laws
 use Rattle.lent.proofs.DataLaws.{words, mpu, write, written, number, has}
 use Rattle.lent.proofs.LoanLaws.{lends-record, record-back}
-use Rattle.lent.proofs.WalkLaws.{typeOf, empty, holds, itself, value, two, let-go, asked-lent, calls, met-by}
+use Rattle.lent.proofs.LocalLaws.{typeOf, in-order, empty, holds, let-go, itself, value, two}
+use Rattle.lent.proofs.WalkLaws.{asked-lent, calls, met-by}
 use Rattle.lent.proofs.write_lent as lent
 use Rattle.lent.proofs.write_lent.Symbol as callee
 use Rattle.lent.proofs.write_lent.Met as callee-proved
@@ -126,7 +127,7 @@ module _ {M : Type 1} {𝓤 : URA M} {H : Heap 𝓤} {A : Atoms 𝓤} (W : Given
         qed W (‵ ftrue ∷ ‵ (owns (mpu-type.the-row ∷ write-type.the-row ∷ []) (m, (w, tt)) passed) ∷ []) ∵ drop ! $ drop ! $ enter ! C Λ code.function (mpu W .word m ∷ words (write W) w) _ $
         alloc1 ! (λ l₀. alloc1 ! (λ l₁. alloc1 ! (λ l₂. alloc1 ! (λ l₃. alloc1 ! (λ l₄. alloc1 ! (λ l₅. alloc1 ! (λ l₆. alloc0 ! $ params1 ! $
         pass1 ! (init ! 10 refl (mpu W .lawful .typed m _ ism .0)) $ pass1 ! (init ! 8 refl (write W .lawful .typed w _ isw .0)) $ pass0 ! $
-        move ! (12 ∷ 13 ∷ 10 ∷ 11 ∷ 8 ∷ 9 ∷ 6 ∷ 7 ∷ 4 ∷ 5 ∷ 2 ∷ 3 ∷ []) $
+        move ! (in-order 6) $
         assigns ! (of-opd ! (value ! 2 refl)) (itself !) (init ! 6 refl (mpu W .lawful .typed m _ ism .0)) $
         assigns ! (addr ! (itself !)) (itself !) (init ! 10 refl (tt, tt)) $
         lft-new ! tt (λ ν. move ! (7 ∷ 0 ∷ []) $ use2 W (later (some (λ (δ : GName). raw (Lent .pre (call l₃ ν δ)) ⊛ ‵ (flent (ν ∷ []) (Owed l₃ ν δ))))) (lends l₃ ν) $ await ! tt $ pick ! (λ δ. split ! $

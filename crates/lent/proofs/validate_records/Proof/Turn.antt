@@ -49,7 +49,8 @@ use Rattle.lent.proofs.DataLaws.{words, region, scan, judged, number, h
 use Rattle.lent.proofs.ScanLaws.{UnderWay, Right, turnsLeft, under-way, right-answer, read-inside, turn-asks}
 use Rattle.lent.proofs.TurnLaws.{right-turned}
 use Rattle.lent.proofs.SliceLaws.{Shut, Shown, shuts-list}
-use Rattle.lent.proofs.WalkLaws.{typeOf, empty, holds, itself, value, part-of, two, let-go, asked, calls-last}
+use Rattle.lent.proofs.LocalLaws.{typeOf, entries, empty, holds, let-go, itself, value, part-of, two}
+use Rattle.lent.proofs.WalkLaws.{asked, calls-last}
 use Rattle.lent.proofs.turn as turn
 use Rattle.lent.proofs.turn.Symbol as turn-code
 use Rattle.lent.proofs.validate_records as records
@@ -140,7 +141,7 @@ module _ {M : Type 1} {𝓤 : URA M} {H : Heap 𝓤} {A : Atoms 𝓤} (W : Given
           assigns ! (of-opd ! (part-of ! 11 refl (sub ! 0 refl (whole !)))) (itself !) (init ! 15 refl (tt, tt)) $
           rewrite ! 15 (λ (m : Bool). ‵ (fat fullShare (τ 5) l₅ 0 (vbool m))) over refl $ leaves-loop ! (value ! 15 refl) $ exec ! (𝓣 .C) (𝓣 .Λ) E body.t-4 (atRet E Exit) $
           assigns ! (of-opd ! (part-of ! 11 refl (sub ! 7 refl (whole !)))) (itself !) (init ! 5 refl (judged W .lawful .typed (t .now .answer) _ is-answer .0)) $
-          shuts-list W (region W) κ q x tt p $ returns ! (look ! 2 refl) $ move ! (2 ∷ 3 ∷ 4 ∷ 5 ∷ 6 ∷ 7 ∷ 8 ∷ 9 ∷ 10 ∷ 11 ∷ 12 ∷ 13 ∷ 14 ∷ 15 ∷ 16 ∷ 17 ∷ 18 ∷ 19 ∷ []) $
+          shuts-list W (region W) κ q x tt p $ returns ! (look ! 2 refl) $ move ! (entries 2 18) $
           let-go ! $ let-go ! $ let-go ! $ let-go ! $ let-go ! $ let-go ! $ free1 ! $ free1 ! $ free1 ! $ free0 ! $ by ! (leaves (t .now .answer) (right-answer (x .now) c (t .now) (t .right) over) is-answer)
         where
           is-answer : Is judged-type.the-row (t .now .answer) (words (judged W) (t .now .answer))
