@@ -1,7 +1,7 @@
 -- One element of an array that lies in a cell, taken out alone: the other elements wait, and the cell is whole again when a value is put back. Assumes what `Given` says.
 --   element     == element k of an array that is a part of an entry, as a part of that entry
 --   behind      == what lies behind a reference has no names of types; it is a part at the type that the code names
-use mathlib.Core.Path.{_≡_, refl, sym, _∙_, ap, subst}
+use mathlib.Core.Path.{_≡_, refl, _∙_, ap, subst}
 use Prim.Native.Nat.{ℕ, zero, suc, _+_, _<_}
 use native.Mathlib.Nat.{not-suc-le-zero, le-of-suc-le-suc}
 use mathlib.Core.List.{List, [], _∷_}

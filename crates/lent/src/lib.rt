@@ -6,12 +6,12 @@ use device::Written;
 use region::Judged;
 use region::Range;
 ghost use mathlib.Core.Path.{_≡_};
-ghost use Prim.Native.Nat.{_<_, _^_};
 ghost use lib.ListN.{take};
 ghost use Rattle.device.specs.Registers.{slotCount};
 ghost use Rattle.device.specs.RegisterWrite.{writeRegister};
-ghost use Rattle.lent.specs.Records.{judgedOf};
-ghost use Rattle.lent.specs.Scan.{finished, askSound, askPairs, askBeside, begun, turned, sounded, taken, compared};
+ghost use Rattle.region.specs.Sound.{regionNo};
+ghost use Rattle.region.specs.Overlap.{overlaps};
+ghost use Rattle.lent.specs.Records.{rangeOf, judgedOf};
 
 // How many records a list passed by value has.
 pub const HELD: usize = 64;
@@ -21,19 +21,6 @@ pub struct MpuRegion {
     pub base: u32,
     pub size: u32,
     pub attr: u32,
-}
-
-// A list's judgement between two turns. The next turn reads record `at` of n: to ask whether it is sound; for pairs, to be the `first` of a pair, record i; or to stand
-// beside that first.
-pub struct Scan {
-    pub more: bool,
-    pub pairs: bool,
-    pub beside: bool,
-    pub at: usize,
-    pub i: usize,
-    pub n: usize,
-    pub first: Range,
-    pub answer: Judged,
 }
 
 // Make this write in the MPU that I lend you; if you refuse it, leave the MPU alone.
@@ -69,11 +56,35 @@ pub fn write_through(m: Mpu, w: Write) -> Written
 pub fn validate_records(regions: &[MpuRegion], count: u32) -> Judged
     ensures { λ r. ⌜ r ≡ judgedOf (now (regions .entry)) count ⌝ }
 {
-    let mut s = begin(regions.len(), count);
-    while s.more {
-        s = turn(s, regions[s.at]);
+    let n = count as usize;
+    if regions.len() < n {
+        return Judged::Short;
     }
-    s.answer
+    let mut k = 0;
+    while k < n {
+        let no = unsound(regions[k]);
+        if no != 0 {
+            return Judged::Unsound { at: k as u32, no };
+        }
+        k += 1;
+    }
+    let mut i = 0;
+    'pairs: loop {
+        if n <= i {
+            break 'pairs Judged::Valid;
+        }
+        let mut j = i + 1;
+        while j < n {
+            if meet(regions[i], regions[j]) {
+                break 'pairs Judged::Pair {
+                    i: i as u32,
+                    j: j as u32,
+                };
+            }
+            j += 1;
+        }
+        i += 1;
+    }
 }
 
 // The same question of records that I hold.
@@ -93,128 +104,24 @@ pub fn validate_given(rs: [MpuRegion; HELD], have: usize, count: u32) -> Judged
     validate_held(rs, count)
 }
 
-// Nothing is read of a list that is too short, or of none.
-fn begin(have: usize, count: u32) -> Scan
-    ensures { λ r. ⌜ r ≡ begun have count ⌝ }
+// The number that refuses a record, 0 for none.
+fn unsound(r: MpuRegion) -> u32
+    ensures { λ k. ⌜ k ≡ regionNo (r .base) (r .size) ⌝ }
 {
-    let n = count as usize;
-    if have < n {
-        return finish(Judged::Short);
-    }
-    if n == 0 {
-        return finish(Judged::Valid);
-    }
-    ask_sound(0, n)
+    region::validate_region(r.base, r.size)
 }
 
-// One turn: record `at` has been read.
-fn turn(s: Scan, r: MpuRegion) -> Scan
-    requires { ⌜ (s .at < s .n) × (s .i < s .n) × (s .n < 2 ^ 32) ⌝ }
-    ensures { λ t. ⌜ t ≡ turned s r ⌝ }
+// Do two records overlap?
+fn meet(a: MpuRegion, b: MpuRegion) -> bool
+    ensures { λ r. ⌜ r ≡ overlaps (rangeOf a) (rangeOf b) ⌝ }
 {
-    let a = Range {
-        base: r.base,
-        size: r.size,
+    let p = Range {
+        base: a.base,
+        size: a.size,
     };
-    if !s.pairs {
-        return sound(s, region::validate_region(r.base, r.size));
-    }
-    if !s.beside {
-        return take(s, a);
-    }
-    let first = s.first;
-    compare(s, region::ranges_meet(first, a))
-}
-
-fn sound(s: Scan, no: u32) -> Scan
-    requires { ⌜ (s .at < s .n) × (s .n < 2 ^ 32) ⌝ }
-    ensures { λ t. ⌜ t ≡ sounded s no ⌝ }
-{
-    if no != 0 {
-        return finish(Judged::Unsound {
-            at: s.at as u32,
-            no,
-        });
-    }
-    if s.at + 1 < s.n {
-        return ask_sound(s.at + 1, s.n);
-    }
-    ask_pairs(0, s.n)
-}
-
-fn take(s: Scan, a: Range) -> Scan
-    requires { ⌜ (s .at < s .n) × (s .n < 2 ^ 32) ⌝ }
-    ensures { λ t. ⌜ t ≡ taken s a ⌝ }
-{
-    if s.at + 1 < s.n {
-        return ask_beside(s.at, a, s.at + 1, s.n);
-    }
-    finish(Judged::Valid)
-}
-
-fn compare(s: Scan, met: bool) -> Scan
-    requires { ⌜ (s .at < s .n) × (s .i < s .n) × (s .n < 2 ^ 32) ⌝ }
-    ensures { λ t. ⌜ t ≡ compared s met ⌝ }
-{
-    if met {
-        return finish(Judged::Pair {
-            i: s.i as u32,
-            j: s.at as u32,
-        });
-    }
-    let first = s.first;
-    if s.at + 1 < s.n {
-        return ask_beside(s.i, first, s.at + 1, s.n);
-    }
-    ask_pairs(s.i + 1, s.n)
-}
-
-fn finish(answer: Judged) -> Scan
-    ensures { λ r. ⌜ r ≡ finished answer ⌝ }
-{
-    let first = Range { base: 0, size: 0 };
-    Scan {
-        more: false,
-        pairs: false,
-        beside: false,
-        at: 0,
-        i: 0,
-        n: 0,
-        first,
-        answer,
-    }
-}
-
-fn ask_sound(at: usize, n: usize) -> Scan
-    ensures { λ r. ⌜ r ≡ askSound at n ⌝ }
-{
-    let first = Range { base: 0, size: 0 };
-    Scan {
-        more: true,
-        pairs: false,
-        beside: false,
-        at,
-        i: 0,
-        n,
-        first,
-        answer: Judged::Valid,
-    }
-}
-
-fn ask_pairs(at: usize, n: usize) -> Scan
-    ensures { λ r. ⌜ r ≡ askPairs at n ⌝ }
-{
-    let mut s = ask_sound(at, n);
-    s.pairs = true;
-    s
-}
-
-fn ask_beside(i: usize, first: Range, at: usize, n: usize) -> Scan
-    ensures { λ r. ⌜ r ≡ askBeside i first at n ⌝ }
-{
-    let mut s = ask_pairs(at, n);
-    s.beside = true;
-    s.i = i;
-    s.first = first;
-    s
+    let q = Range {
+        base: b.base,
+        size: b.size,
+    };
+    region::ranges_meet(p, q)
 }
