@@ -25,7 +25,7 @@ use Rattle.sequence.specs.Sequence.{triple, slotWrite, writeAt, writes}
 use Rattle.sequence.specs.Worked.{example}
 use Rattle.switch.specs.declared.Switch.{Switch}
 use Rattle.switch.specs.Switch.{startNo, started, stepped, steps, whole}
-use Rattle.exports.specs.Words.{mpuOf, heldNo, switchWord}
+use Rattle.exports.specs.Words.{mpuOf, heldNo, foundWords, switchWord}
 use Rattle.exports.specs.Many.{caseAt, tableAfter, tableBy, addedAt, switchAfter, switchedAt, foundWordAt}
 
 -- ---- decisions, by the MPU of the paper's example under a control
@@ -66,7 +66,10 @@ unfolding tableAfter tryAdd builderNo refusals full firstFree overlapsAny lawful
 fills-worked = refl
 
 -- the paper's two requests, writable and read-only; three words left over are no request
-table-worked : tableBy (1 ∷ 536870912 ∷ 1024 ∷ 1 ∷ 1 ∷ 134217728 ∷ 65536 ∷ 0 ∷ 1 ∷ 0 ∷ 32 ∷ []) ≡ example
+abbrev two : List ℕ
+two = 1 ∷ 536870912 ∷ 1024 ∷ 1 ∷ 1 ∷ 134217728 ∷ 65536 ∷ 0 ∷ []
+
+table-worked : map tableBy (two ∷ (two ++ (1 ∷ 0 ∷ 32 ∷ [])) ∷ []) ≡ example ∷ example ∷ []
 unfolding tableAfter
 table-worked = refl
 
@@ -101,6 +104,10 @@ last-worked = refl
 kept-worked : map (λ c. listed (switchWord (switchAfter (tableBy []) (received c) (0 ∷ 4 ∷ []) 2)) 0 47) (5 ∷ 2 ∷ []) ≡ (replicate 16 0 ++ (1 ∷ replicate 30 0)) ∷ (listed suc 0 16 ++ (2 ∷ replicate 30 0)) ∷ []
 unfolding switchWord tableAfter switchAfter whole steps started startNo stepped writeRegister writeNo tripleNo tripleRefusals stored allowed writes writeAt slotWrite lawful lawfulPart clashAt slotEntry lowest first
 kept-worked = refl
+
+-- ---- eleven words have room for three answers; the two words left over stay
+left-worked : foundWords suc (replicate 11 70) ≡ listed suc 0 9 ++ (70 ∷ 70 ∷ [])
+left-worked = refl
 
 -- ---- lists of two records: valid; record 1 of a size that is no power of two; records 0 and 1 overlap; one record and a half; none
 lists-worked : listed (foundWordAt (0 ∷ 32 ∷ 9 ∷ 64 ∷ 32 ∷ 9 ∷ 0 ∷ 32 ∷ 9 ∷ 0 ∷ 48 ∷ 9 ∷ 0 ∷ 64 ∷ 9 ∷ 32 ∷ 32 ∷ 9 ∷ 0 ∷ 48 ∷ 9 ∷ 0 ∷ []) 2) 0 15 ≡ 0 ∷ 0 ∷ 0 ∷ 2 ∷ 1 ∷ 0 ∷ 6 ∷ 0 ∷ 1 ∷ 8 ∷ 0 ∷ 0 ∷ 8 ∷ 0 ∷ 0 ∷ []
