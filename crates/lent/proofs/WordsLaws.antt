@@ -7,7 +7,7 @@ use native.Mathlib.Omega.{arith}
 use lib.ListN.{length, getD}
 use Rattle.region.specs.List.{recordAt, records, judged}
 use Rattle.lent.specs.declared.MpuRegion.{MpuRegion}
-use Rattle.lent.specs.Records.{rangeAt, judgedOf, words}
+use Rattle.lent.specs.Records.{noRecord, rangeAt, judgedOf, words}
 
 pub same-range : (ys : List MpuRegion) (i : ℕ) → rangeAt ys i ≡ recordAt (words ys) i
 same-range [] i = refl
@@ -26,3 +26,7 @@ as-many ys = let e : length (words ys) ≡ 3 * length ys = three-each ys in omeg
 
 pub as-words : (ys : List MpuRegion) (n : ℕ) → judgedOf ys n ≡ judged (recordAt (words ys)) (records (words ys)) n
 as-words ys n = λ k. judged (λ i. same-range ys i k) (as-many ys k) n
+
+-- two lists that differ in attr alone are judged alike
+pub attr-unread : (ys zs : List MpuRegion) (n : ℕ) → length ys ≡ length zs → ((i : ℕ) → (getD ys i noRecord .base ≡ getD zs i noRecord .base) × (getD ys i noRecord .size ≡ getD zs i noRecord .size)) → judgedOf ys n ≡ judgedOf zs n
+attr-unread ys zs n e same = λ k. judged (λ i. record { base = same i .0 k; size = same i .1 k }) (e k) n

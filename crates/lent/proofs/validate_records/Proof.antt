@@ -84,7 +84,7 @@ module _ {M : Type 1} {𝓤 : URA M} {H : Heap 𝓤} {A : Atoms 𝓤} (W : Given
       assigns ! (of-opd ! (part-of ! 7 refl (sub ! 1 refl (whole !)))) (itself !) (init ! 21 refl (tt, record { fits = room .0 })) $
       assigns ! (bin ! (value ! 21 refl) (value ! 11 refl) tt) (itself !) (init ! 23 refl (tt, tt)) $ first ! $ branches ! (value ! 23 refl)
       (λ few. assigns ! (agg ! (and-then ! (lit ! tt) (no-more !))) (itself !) (init ! 5 refl (judged W .lawful .typed Short _ is-short .0)) $
-      shuts-list W (region W) κ q x tt p $ returns-within ! (Exit W memory run κ q x c) refl (look ! 2 refl) $ answers W memory run κ q x c l is-count Short (too-few (x .now) c (ltb-true _ _ (is-true _ few))) is-short (ltb (length (x .now)) c))
+      shuts-list W (region W) κ q x tt p $ returns-within ! (Exit W memory run κ q x c) refl (look ! 2 refl) $ answers W memory run κ q x c l is-count Short (too-few (x .now) c (ltb-true _ _ (is-true _ few))) is-short _)
       (λ enough. skips ! $ exec ! (𝓣 .C) (𝓣 .Λ) (E l) body.t-5 (atRet (E l) (Exit W memory run κ q x c)) $
       rewrite ! 23 (λ (m : Bool). ‵ (fat fullShare (τ 9) (l 9) 0 (vbool m))) (is-false _ enough) refl $
       assigns ! (of-opd ! (lit ! tt)) (itself !) (init ! 13 refl (tt, record { fits = lit< tt })) $ first ! $ blocks ! $

@@ -2,7 +2,7 @@
 use mathlib.Core.Path.{_≡_, refl, _∙_}
 use mathlib.Core.Option.{none, some}
 use mathlib.Core.WellFounded.{InvImage·wf}
-use Prim.Native.Nat.{ℕ, _+_, _-_, _<_, _≤_}
+use Prim.Native.Nat.{ℕ, _+_, _-_, _<_, _≤_, _^_}
 use native.Mathlib.Omega.{arith}
 use mathlib.Core.List.{List, [], _∷_}
 use lib.Dec.{ltb, lit<, leb→le, nleb→lt}
@@ -35,7 +35,7 @@ use Rattle.region.proofs.Judged.Laws as judged-laws
 use Rattle.lent.specs.declared.MpuRegion.{MpuRegion}
 use Rattle.lent.proofs.MpuRegion as region-type
 use Rattle.lent.proofs.DataLaws.{words, judged}
-use Rattle.lent.proofs.FoundLaws.{next, bad, meets, PairsTo, none-found}
+use Rattle.lent.proofs.FoundLaws.{small, bad, meets, PairsTo, none-found}
 use Rattle.lent.proofs.LocalLaws.{plus-one, itself, value}
 use Rattle.lent.proofs.meet.Symbol as callee
 use Rattle.lent.proofs.validate_records.Code.Mir as body
@@ -65,7 +65,7 @@ module _ {M : Type 1} {𝓤 : URA M} {H : Heap 𝓤} {A : Atoms 𝓤} (W : Given
       jumps ! $ exec ! (𝓣 .C) (𝓣 .Λ) (E l) body.t-9 (atRet (E l) (Exit W memory run κ q x c)) $ forget ! 13 refl $ forget ! 17 refl $ forget ! 37 refl $
       gives W memory run κ q x c l is-count Valid (none-found (x .now) c fits sound (t .known ∙ lowest-end (paired (meets (x .now) c) c) (leb→le c (t .i) over) ∙ all (leb→le c (t .i) over))) is-valid 𝓣 p)
       (λ more. skips ! $ exec ! (𝓣 .C) (𝓣 .Λ) (E l) from-j (anyQ (Then t)) $
-      assigns ! (bin ! (value ! 17 refl) (lit ! tt) (record { fits = next (is-count .1) (nleb→lt c (t .i) more) })) (itself !) (init ! 19 refl (tt, record { fits = next (is-count .1) (nleb→lt c (t .i) more) })) $ forget ! 37 refl $ first ! $ blocks ! $
+      assigns ! (bin ! (value ! 17 refl) (lit ! tt) (record { fits = starts (nleb→lt c (t .i) more) })) (itself !) (init ! 19 refl (tt, record { fits = starts (nleb→lt c (t .i) more) })) $ forget ! 37 refl $ first ! $ blocks ! $
       loops ! 𝓣 (beside.Fewer W memory run κ q x c room is-count fits 𝓣 met p l k sound t (nleb→lt c (t .i) more)) (beside.fewer-ends W memory run κ q x c room is-count fits 𝓣 met p l k sound t (nleb→lt c (t .i) more))
       (beside.Inner W memory run κ q x c room is-count fits 𝓣 met p l k sound t (nleb→lt c (t .i) more))
       (λ u. beside.a-turn W memory run κ q x c room is-count fits 𝓣 met p l k sound t (nleb→lt c (t .i) more) u (ltb (u .j) c) refl)
@@ -73,6 +73,9 @@ module _ {M : Type 1} {𝓤 : URA M} {H : Heap 𝓤} {A : Atoms 𝓤} (W : Given
     where
       all : c ≤ t .i → t .i ≡ c
       all h = omega (arith, h, t .within)
+
+      starts : t .i < c → t .i + 1 < 2 ^ 64
+      starts h = omega (arith, small (is-count .1) h)
 
       up : t .i < c → t .i + 1 ≤ c
       up h = omega (arith, h)
