@@ -1,54 +1,33 @@
 // Commands from standard input, one a line, and the answer to each on standard output: a table and a switch, tried by hand.
+// What a line asks for and what it changes is the library's (`commands`); here it is read, and its answer printed from what was held before it.
 mod print;
 mod regions;
 mod registers;
 mod switches;
 mod tables;
 
-use device::Mpu;
-use device::Pair;
-use device::Write;
+use commands::Command;
+use commands::Reading;
+use commands::Tell;
 use libc::STDIN_FILENO;
 use switch::Switch;
 use table::Table;
-use text::Found;
 ghost use mathlib.Core.Path.{_≡_};
 ghost use lib.ListN.{length};
+ghost use Rattle.commands.specs.Reading.{takenAll};
 
 // A longer line is a bad one.
 const LONGEST_LINE: usize = 4095;
-
-// What the commands work on.
-struct Console {
-    table: Table,
-    switch: Switch,
-}
-
-// The console between two bytes: how many bytes of its line are held, and how many lines were ended.
-struct Reading {
-    console: Console,
-    held: usize,
-    lines: u64,
-}
 
 struct Turn {
     reading: Reading,
     ended: bool,
 }
 
-struct Answered {
-    known: bool,
-    console: Console,
-}
-
 // A proved loop ends: no input has more pieces.
 fn main() {
     let mut line = no_line();
-    let mut r = Reading {
-        console: begin(),
-        held: 0,
-        lines: 0,
-    };
+    let mut r = commands::nothing_read();
     let mut turns = u64::MAX;
     while 0 < turns {
         let t = next_piece(r, &mut line);
@@ -67,27 +46,6 @@ fn no_line() -> [u8; LONGEST_LINE]
     [0; LONGEST_LINE]
 }
 
-fn begin() -> Console {
-    let w = Write {
-        rnr: 0,
-        rbar: 0,
-        rasr: 0,
-    };
-    let m = Mpu {
-        slots: [Pair { rbar: 0, rasr: 0 }; device::SLOTS],
-        control: 0,
-    };
-    Console {
-        table: Table::new(),
-        switch: Switch {
-            mpu: m,
-            writes: [w; sequence::WRITES],
-            position: 0,
-            log: [w; sequence::WRITES],
-        },
-    }
-}
-
 // Reads a piece of the input, of whatever length it comes, and answers the lines that end in it.
 fn next_piece(r: Reading, line: &mut [u8]) -> Turn {
     let mut piece = io::buffer();
@@ -99,120 +57,63 @@ fn next_piece(r: Reading, line: &mut [u8]) -> Turn {
     }
 }
 
-fn run(r: Reading, line: &mut [u8], piece: &[u8]) -> Reading {
+fn run(r: Reading, line: &mut [u8], piece: &[u8]) -> Reading
+    ensures { λ n. ⌜ (n ≡ takenAll (now (piece .entry)) (record { reading = r; line = now (line .entry) }) .reading) × (now (line .exit) ≡ takenAll (now (piece .entry)) (record { reading = r; line = now (line .entry) }) .line) ⌝ }
+{
     let mut now = r;
     let mut i = 0;
     while i < piece.len() {
-        now = take_byte(now, line, piece[i]);
+        hear(now, line, piece[i]);
+        now = commands::take_byte(now, line, piece[i]);
         i += 1;
     }
     now
 }
 
-fn take_byte(r: Reading, line: &mut [u8], byte: u8) -> Reading {
+// A newline ends a line, which is answered.
+fn hear(r: Reading, line: &[u8], byte: u8) {
     if byte == b'\n' {
-        return end_line(r, line);
+        answer(r, line);
     }
-    let mut now = r;
-    now.held = form::gather(line, r.held, byte);
-    now
 }
 
 // A last line without its newline is a bad one.
 fn finish(r: Reading) {
     if 0 < r.held {
-        print::bad(next_number(r.lines));
+        print::bad(commands::next_number(r.lines));
     }
 }
 
-fn end_line(r: Reading, line: &[u8]) -> Reading {
-    let number = next_number(r.lines);
+fn answer(r: Reading, line: &[u8]) {
     let c = r.console;
-    let a = answer(line, r.held, c);
-    if !a.known {
-        print::bad(number);
-    }
-    let next = a.console;
-    Reading {
-        console: next,
-        held: 0,
-        lines: number,
-    }
-}
-
-// No input has as many lines as there are numbers.
-fn next_number(lines: u64) -> u64 {
-    if lines < u64::MAX { lines + 1 } else { lines }
-}
-
-fn answer(line: &[u8], held: usize, c: Console) -> Answered {
-    if line.len() < held {
-        return Answered {
-            known: false,
-            console: c,
-        };
-    }
-    let text = &line[..held];
-    if is_silent(text) {
-        return Answered {
-            known: true,
-            console: c,
-        };
-    }
-    command(text, c)
-}
-
-// Is this an empty line, or a comment?
-fn is_silent(text: &[u8]) -> bool {
-    if text.len() == 0 {
-        return true;
-    }
-    match text::read_word(text, 0, b"#") {
-        Found::At(_) => true,
-        Found::Nothing => false,
-    }
-}
-
-fn command(text: &[u8], c: Console) -> Answered {
     let t = c.table;
     let s = c.switch;
     let m = s.mpu;
-    if regions::tells(text)
-        || tables::tells(text, t)
-        || registers::tells(text, m)
-        || switches::tells(text, t, s)
-    {
-        return after(t, s);
-    }
-    let a = tables::changes(text, t);
-    if a.known {
-        let next = a.table;
-        return after(next, s);
-    }
-    let b = registers::changes(text, m);
-    if b.known {
-        let mut n = s;
-        let next = b.mpu;
-        n.mpu = next;
-        return after(t, n);
-    }
-    let d = switches::changes(text, t, s);
-    let next = d.switch;
-    Answered {
-        known: d.known,
-        console: Console {
-            table: t,
-            switch: next,
-        },
+    let text = commands::held_part(line, r.held);
+    match commands::line_command(line, r.held) {
+        Command::Bad => print::bad(commands::next_number(r.lines)),
+        Command::Silent => {}
+        Command::Tell(q) => tell(q, t, s, text),
+        Command::Table(k) => tables::change(k, t),
+        Command::Mpu(k) => registers::change(k, m, text),
+        Command::Switch(k) => switches::change(k, t, s),
     }
 }
 
-fn after(t: Table, s: Switch) -> Answered {
-    Answered {
-        known: true,
-        console: Console {
-            table: t,
-            switch: s,
-        },
+fn tell(q: Tell, t: Table, s: Switch, text: &[u8]) {
+    let m = s.mpu;
+    match q {
+        Tell::Pow2(n) => regions::pow2(n),
+        Tell::Region(r) => regions::region(r),
+        Tell::Overlap(a, b) => regions::overlap(a, b),
+        Tell::Records(count) => regions::records(text, count),
+        Tell::Size(size) => regions::field(fields::size_field(size)),
+        Tell::Rasr(a) => regions::field(fields::rasr_for(a)),
+        Tell::Covers(part, address) => tables::covers(t, part, address),
+        Tell::EntryAt(at) => tables::entry(t, at),
+        Tell::Writes(part) => switches::writes(t, part),
+        Tell::Ask(a) => registers::ask(m, a),
+        Tell::Pairs => registers::show(m),
+        Tell::Record => switches::show(s),
     }
 }

@@ -1,52 +1,15 @@
-// The MPU of the switch record: asked and shown; one register write and a hand change it.
+// The MPU of the switch record: asked and shown; one register write, ten triples and a hand change it.
 use crate::print;
+use commands::ToMpu;
 use device::Access;
 use device::Answer;
-use device::Kind;
 use device::Mpu;
 use device::Pair;
 use device::SLOTS;
 use device::Write;
-use form::read_whole;
 
-pub struct Changed {
-    pub known: bool,
-    pub mpu: Mpu,
-}
-
-pub fn tells(text: &[u8], m: Mpu) -> bool {
-    ask(text, m, b"ask kind=read addr=# priv=!", Kind::Read)
-        || ask(text, m, b"ask kind=write addr=# priv=!", Kind::Write)
-        || mpu(text, m)
-}
-
-pub fn changes(text: &[u8], m: Mpu) -> Changed {
-    let a = reg(text, m);
-    if a.known {
-        return a;
-    }
-    let b = hand_slot(text, m);
-    if b.known {
-        return b;
-    }
-    hand_ctrl(text, m)
-}
-
-fn ask(text: &[u8], m: Mpu, question: &[u8], kind: Kind) -> bool {
-    let f = read_whole(text, question);
-    if f.read {
-        let a = Access {
-            address: f.values[0],
-            kind,
-            privileged: f.values[1] == 1,
-        };
-        answer(device::decide(m, a));
-    }
-    f.read
-}
-
-fn answer(a: Answer) {
-    match a {
+pub fn ask(m: Mpu, a: Access) {
+    match device::decide(m, a) {
         Answer::Private => print::word(b"answer=private\n"),
         Answer::Unchecked => print::word(b"answer=unchecked\n"),
         Answer::Undefined => print::word(b"answer=undefined\n"),
@@ -56,15 +19,11 @@ fn answer(a: Answer) {
     }
 }
 
-fn mpu(text: &[u8], m: Mpu) -> bool {
-    let known = read_whole(text, b"mpu").read;
-    if known {
-        print::key(b"ctrl=", m.control);
-        print::end();
-        let slots = m.slots;
-        pairs(slots);
-    }
-    known
+pub fn show(m: Mpu) {
+    print::key(b"ctrl=", m.control);
+    print::end();
+    let slots = m.slots;
+    pairs(slots);
 }
 
 fn pairs(slots: [Pair; SLOTS]) {
@@ -79,64 +38,24 @@ fn pairs(slots: [Pair; SLOTS]) {
     }
 }
 
+// The answer to a change of this MPU.
+pub fn change(k: ToMpu, m: Mpu, text: &[u8]) {
+    match k {
+        ToMpu::Reg(w) => reg(m, w),
+        ToMpu::HandSlot(_, _) => print::number(0),
+        ToMpu::HandCtrl(_) => print::number(0),
+        ToMpu::Apply => apply(m, text),
+    }
+}
+
 // One register write, in the record as it is lent.
-fn reg(text: &[u8], m: Mpu) -> Changed {
-    let f = read_whole(text, b"reg rnr=# rbar=# rasr=#");
-    if !f.read {
-        return unknown(m);
-    }
-    let w = Write {
-        rnr: f.values[0],
-        rbar: f.values[1],
-        rasr: f.values[2],
-    };
-    let done = lent::write_through(m, w);
-    let written = done.mpu;
-    print::number(done.no);
-    Changed {
-        known: true,
-        mpu: written,
-    }
+fn reg(m: Mpu, w: Write) {
+    print::number(lent::write_through(m, w).no);
 }
 
-fn hand_slot(text: &[u8], m: Mpu) -> Changed {
-    let f = read_whole(text, b"hand-slot slot=# rbar=# rasr=#");
-    if !f.read {
-        return unknown(m);
-    }
-    let at = f.values[0] as usize;
-    if SLOTS <= at {
-        return unknown(m);
-    }
-    let mut n = m;
-    n.slots[at] = Pair {
-        rbar: f.values[1],
-        rasr: f.values[2],
-    };
-    print::number(0);
-    Changed {
-        known: true,
-        mpu: n,
-    }
-}
-
-fn hand_ctrl(text: &[u8], m: Mpu) -> Changed {
-    let f = read_whole(text, b"hand-ctrl ctrl=#");
-    if !f.read {
-        return unknown(m);
-    }
-    let mut n = m;
-    n.control = f.values[0];
-    print::number(0);
-    Changed {
-        known: true,
-        mpu: n,
-    }
-}
-
-fn unknown(m: Mpu) -> Changed {
-    Changed {
-        known: false,
-        mpu: m,
-    }
+fn apply(m: Mpu, text: &[u8]) {
+    let a = switch::apply_program(m, commands::triples_of(text));
+    let log = a.log;
+    print::number(a.no);
+    print::log(log);
 }

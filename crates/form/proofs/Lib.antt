@@ -1,4 +1,5 @@
 pub mod BackLaws
+pub mod ChoiceLaws
 pub mod Determined
 pub mod FilledLaws
 pub mod FormLaws

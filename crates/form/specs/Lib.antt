@@ -1,4 +1,5 @@
 pub mod Form
 pub mod Filled
 pub mod Gather
+pub mod Choice
 pub mod Worked

@@ -1,0 +1,5 @@
+pub mod Determined
+pub mod LineLaws
+pub mod MadeLaws
+pub mod ReadingLaws
+pub mod Worked
