@@ -1,12 +1,12 @@
 -- What a line must not do: one that is bad, empty or a comment leaves the table and the switch as they were, whatever bytes it has. By the kind of its command. Assumes nothing.
 use mathlib.Core.Path.{_≡_, refl, _∙_}
-use mathlib.Core.Bool.{Bool, true, false}
 use mathlib.Core.List.{List, [], _∷_, _++_}
 use Prim.Native.Nat.{ℕ}
-use borrow.Author.Tests.{ne-eqb, ltb-true, ltb-false}
+use borrow.Author.Tests.{ne-eqb}
 use native.Mathlib.Omega.{arith}
 use lib.Dec.{ltb}
 use lib.ListN.{length}
+use Rattle.laws.proofs.TestLaws.{pick-same}
 use Rattle.device.specs.declared.Write.{Write}
 use Rattle.text.specs.Read.{newline}
 use Rattle.commands.specs.declared.Command.the-variants.{Bad, Silent}
@@ -14,7 +14,7 @@ use Rattle.commands.specs.declared.change.Console.{Console}
 use Rattle.commands.specs.Command.{commandOf}
 use Rattle.commands.specs.Obeyed.{obeyed}
 use Rattle.commands.specs.Reading.{Held, takenAll}
-use Rattle.commands.proofs.ReadingLaws.{OneLine, Ready, line-obeyed, line-long}
+use Rattle.commands.proofs.ReadingLaws.{OneLine, Ready, line-after}
 
 pub empty-silent : commandOf [] ≡ Silent
 unfolding commandOf
@@ -33,8 +33,4 @@ bad-keeps c line ws e = rw e
 
 -- the same of a line with its newline, as it is read
 pub bad-line : (bs : List ℕ) (h : Held) → OneLine bs → Ready h → commandOf bs ≡ Bad → takenAll (bs ++ (newline ∷ [])) h .reading .console ≡ h .reading .console
-bad-line bs h o r e = by (ltb 4095 (length bs)) refl
-  where
-    by : (t : Bool) → ltb 4095 (length bs) ≡ t → takenAll (bs ++ (newline ∷ [])) h .reading .console ≡ h .reading .console
-    by true t = line-long bs h o r (ltb-true 4095 (length bs) t)
-    by false t = line-obeyed bs h o r (ltb-false 4095 (length bs) t) ∙ bad-keeps (h .reading .console) bs _ e
+bad-line bs h o r e = line-after bs h o r ∙ rw e (pick-same (ltb 4095 (length bs)) (h .reading .console))

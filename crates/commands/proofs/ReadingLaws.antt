@@ -1,4 +1,5 @@
--- Pieces may be cut anywhere: what is left of the bytes comes to the same. A line that fits is obeyed as it came, one that is too long changes nothing. Assumes nothing.
+-- Pieces may be cut anywhere: what is left of the bytes comes to the same. A line that fits is obeyed as it came, one that is too long changes nothing;
+-- so an input of whole lines is each line obeyed in turn. Assumes nothing.
 use mathlib.Core.Path.{_≡_, refl, sym, _∙_, ap, subst⁻¹}
 use mathlib.Core.Bool.{Bool, true, false}
 use mathlib.Core.List.{List, [], _∷_, _++_}
@@ -6,8 +7,8 @@ use Prim.Native.Nat.{ℕ, suc, _+_, _≤_, _<_}
 use native.Mathlib.Numerals.{add-one}
 use native.Mathlib.Nat.{zero-add}
 use native.Mathlib.Omega.{arith}
-use borrow.Author.Tests.{lt-ltb, le-ltb}
-use lib.Dec.{eqb}
+use borrow.Author.Tests.{lt-ltb, le-ltb, ltb-true, ltb-false}
+use lib.Dec.{ltb, eqb}
 use lib.ListN.{length, getD, set, take, drop, drop-of-length-le, length-set, length-replicate}
 use lib.Seq.{drop-cons}
 use Rattle.text.specs.Read.{newline}
@@ -16,8 +17,8 @@ use Rattle.form.proofs.GatherLaws.{gather-fits, gather-long}
 use Rattle.commands.specs.declared.change.Console.{Console}
 use Rattle.commands.specs.Command.{commandOf, lineCommand}
 use Rattle.commands.specs.Given.{triplesOf}
-use Rattle.commands.specs.Obeyed.{obeyed}
-use Rattle.commands.specs.Reading.{Held, ended, gathering, taken, takenAll, consoleAfter, start}
+use Rattle.commands.specs.Obeyed.{obeyed, nothingHeld}
+use Rattle.commands.specs.Reading.{Held, ended, gathering, taken, takenAll, start, consoleAfter, inputOf, lineAfter, obeyedAll}
 
 module _ (bs : List ℕ) (h : Held) {i : ℕ} where
   pub taken-next : i < length bs → takenAll (drop i bs) h ≡ takenAll (drop (i + 1) bs) (taken h (getD bs i 0))
@@ -98,3 +99,27 @@ module _ (bs : List ℕ) (h : Held) (o : OneLine bs) (r : Ready h) where
       let many : g .held ≡ length (h .line) + 1 = gather-long bs (part h) (rw (r .none) (omega arith)) (rw (r .none, r .room) (omega (arith, long))) in
       let over : length (g .line) < g .held = rw (many, room, r .room) (omega arith) in
       rw (after, lt-ltb (length (g .line)) (g .held) over)
+
+  pub line-after : takenAll (bs ++ (newline ∷ [])) h .reading .console ≡ lineAfter (h .reading .console) bs
+  line-after = by (ltb 4095 (length bs)) refl
+    where
+      by : (t : Bool) → ltb 4095 (length bs) ≡ t → takenAll (bs ++ (newline ∷ [])) h .reading .console ≡ lineAfter (h .reading .console) bs
+      by true t = rw t (line-long (ltb-true 4095 (length bs) t))
+      by false t = rw t (line-obeyed (ltb-false 4095 (length bs) t))
+
+-- ---- any number of lines
+abbrev pub Lines : List (List ℕ) → Type 0
+Lines [] = Unit
+Lines (l ∷ ls) = OneLine l × Lines ls
+
+pub lines-after : (ls : List (List ℕ)) (h : Held) → Lines ls → Ready h → takenAll (inputOf ls) h .reading .console ≡ obeyedAll (h .reading .console) ls
+unfolding takenAll
+lines-after [] h o r = refl
+lines-after (l ∷ ls) h o r =
+    ap (λ (x : Held). x .reading .console) (taken-pieces (l ++ (newline ∷ [])) (inputOf ls) h)
+    ∙ lines-after ls (takenAll (l ++ (newline ∷ [])) h) (o .1) (line-ready l h (o .0) r)
+    ∙ ap (λ (c : Console). obeyedAll c ls) (line-after l h (o .0) r)
+
+-- the console after an input of whole lines is each line obeyed in turn
+pub console-after : (ls : List (List ℕ)) → Lines ls → consoleAfter (inputOf ls) ≡ obeyedAll nothingHeld ls
+console-after ls o = lines-after ls start o start-ready

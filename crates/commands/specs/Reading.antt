@@ -6,7 +6,9 @@
 --   takenAll bs h == after the bytes bs, one after the other
 --   start         == before the first byte
 --   consoleAfter bs == the console after the input bs
-use mathlib.Core.List.{List, [], _∷_}
+--   inputOf lines  == the lines, each with its newline, one after the other
+--   obeyedAll c lines == the console after these lines, from c: each obeyed in turn, but that one over 4,095 bytes changes nothing
+use mathlib.Core.List.{List, [], _∷_, _++_}
 use Prim.Native.Nat.{ℕ, _+_}
 use lib.Dec.{ltb, eqb}
 use lib.ListN.{length, set, take, replicate}
@@ -15,7 +17,7 @@ use Rattle.text.specs.Read.{newline}
 use Rattle.form.specs.Gather.{gathered}
 use Rattle.commands.specs.declared.change.Console.{Console}
 use Rattle.commands.specs.declared.reading.Reading.{Reading}
-use Rattle.commands.specs.Command.{lineCommand}
+use Rattle.commands.specs.Command.{commandOf, lineCommand}
 use Rattle.commands.specs.Given.{triplesOf}
 use Rattle.commands.specs.Obeyed.{obeyed, nothingHeld}
 
@@ -53,3 +55,15 @@ start = record { reading = nothingRead; line = replicate 4095 0 }
 
 abbrev pub consoleAfter : List ℕ → Console
 consoleAfter bs = takenAll bs start .reading .console
+
+-- ---- the same by lines
+abbrev pub inputOf : List (List ℕ) → List ℕ
+inputOf [] = []
+inputOf (l ∷ ls) = (l ++ (newline ∷ [])) ++ inputOf ls
+
+abbrev pub lineAfter : Console → List ℕ → Console
+lineAfter c l = pick (ltb 4095 (length l)) c (obeyed c (commandOf l) (triplesOf l))
+
+abbrev pub obeyedAll : Console → List (List ℕ) → Console
+obeyedAll c [] = c
+obeyedAll c (l ∷ ls) = obeyedAll (lineAfter c l) ls
