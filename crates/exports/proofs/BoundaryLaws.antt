@@ -5,13 +5,15 @@ use mathlib.Core.Bool.{Bool, true, false, not, false≢true}
 use mathlib.Core.List.{List, [], _∷_, map}
 use mathlib.Core.Logic.{_↔_}
 use Prim.Native.Nat.{ℕ, zero, suc, _+_, _*_, _/_, _%_, _≤_, _<_}
-use native.Mathlib.Nat.{mul-assoc}
+use native.Mathlib.Nat.{mul-assoc, zero-add}
 use native.Mathlib.Omega.{arith}
+use borrow.Author.Tests.{le-ltb, ne-eqb}
 use lib.Dec.{eqb}
-use lib.ListN.{length, getD, drop, List·getD-eq-default}
-use lib.Seq.{getD-take, getD-drop}
+use lib.ListN.{length, getD, drop, List·getD-append, List·getD-eq-default}
+use lib.Seq.{getD-take, getD-drop, getD-append-add}
 use Rattle.laws.specs.Pick.{pick}
 use Rattle.laws.specs.Listed.{listed}
+use Rattle.laws.proofs.ListedLaws.{length-listed, getD-listed}
 use Rattle.region.specs.declared.Range.{Range}
 use Rattle.region.specs.declared.Judged.{Judged}
 use Rattle.region.specs.declared.Judged.the-variants.{Valid, Short, Unsound, Pair}
@@ -31,9 +33,10 @@ use Rattle.table.specs.declared.Request.{Request}
 use Rattle.table.specs.Numbers.{slots}
 use Rattle.table.specs.Table.{emptyTable}
 use Rattle.table.specs.Builder.{tryAdd}
+use Rattle.switch.specs.declared.Switch.{Switch}
 use Rattle.switch.specs.Switch.{whole}
-use Rattle.exports.specs.Words.{wordAt, mpuOf, accessAt, heldNo, caseNo, partAt, requestAt, listAt, foundWord}
-use Rattle.exports.specs.Many.{caseAt, tableAfter, addedAt, switchAfter, switchedAt, foundAt, foundWordAt}
+use Rattle.exports.specs.Words.{wordAt, mpuOf, accessAt, heldNo, caseNo, partAt, requestAt, listAt, foundWord, foundWords, switchWord}
+use Rattle.exports.specs.Many.{caseAt, tableAfter, tableBy, addedAt, switchAfter, switchedAt, foundAt, foundWordAt}
 use Rattle.exports.proofs.ListAtLaws.{third}
 
 -- ---- a word beyond the end is 0
@@ -97,6 +100,10 @@ one-build-after-another : (ws : List ℕ) (n : ℕ) → listed (λ k. addedAt ws
 unfolding tableAfter
 one-build-after-another ws n = builds-from ws 0 n
 
+-- a switch's table is the one after every request of four whole words
+all-whole-requests : (ws : List ℕ) → tableBy ws ≡ tableAfter ws (length ws / 4)
+all-whole-requests ws = refl
+
 -- ---- switches: each number is that of one whole switch, of the MPU that the one before left; the first is of the MPU received
 switches : Table → Mpu → List ℕ → ℕ → ℕ → List ℕ
 switches t m ps i zero = []
@@ -112,6 +119,11 @@ switches-from t m ps i (suc n) = ap (λ (l : List ℕ). switchedAt t m ps i .no 
 one-switch-after-another : (t : Table) (m : Mpu) (ps : List ℕ) (n : ℕ) → listed (λ k. switchedAt t m ps k .no) 0 n ≡ switches t m ps 0 n
 unfolding switchAfter
 one-switch-after-another t m ps n = switches-from t m ps 0 n
+
+-- after the 47 words of a switch come zeros
+switch-beyond : (s : Switch) (k : ℕ) → 47 ≤ k → switchWord s k ≡ 0
+unfolding switchWord
+switch-beyond s k h = rw (le-ltb k 16 (omega arith), ne-eqb k 16 (omega arith), le-ltb k 47 h)
 
 -- ---- lists
 -- the three words of each answer
@@ -133,3 +145,15 @@ record-place ws n i r h =
       base = (getD-take (3 * n) part (3 * r) 0 (omega arith) ∙ getD-drop (3 * n * i) ws (3 * r) 0 ∙ ap (λ (x : ℕ). getD ws x 0) base) k;
       size = (getD-take (3 * n) part (3 * r + 1) 0 (omega arith) ∙ getD-drop (3 * n * i) ws (3 * r + 1) 0 ∙ ap (λ (x : ℕ). getD ws x 0) size) k;
     }
+
+-- every whole three words get an answer; the words left over stay
+module _ (f : ℕ → ℕ) (d : List ℕ) where
+  answered : (k : ℕ) → k < 3 * (length d / 3) → getD (foundWords f d) k 0 ≡ f k
+  answered k h =
+      let n = 3 * (length d / 3) in
+      List·getD-append (listed f 0 n) (drop n d) 0 k (rw (length-listed f 0 n) h) ∙ getD-listed f 0 n k 0 h ∙ ap f (zero-add k)
+
+  left-over : (m : ℕ) → let n = 3 * (length d / 3) in getD (foundWords f d) (n + m) 0 ≡ getD d (n + m) 0
+  left-over m =
+      let n = 3 * (length d / 3) in
+      ap (λ (x : ℕ). getD (foundWords f d) (x + m) 0) (sym (length-listed f 0 n)) ∙ getD-append-add (listed f 0 n) (drop n d) m 0 ∙ getD-drop n d m 0

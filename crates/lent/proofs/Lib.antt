@@ -9,3 +9,4 @@ pub mod SliceLaws
 pub mod StoreLaws
 pub mod WalkLaws
 pub mod WordsLaws
+pub mod Worked

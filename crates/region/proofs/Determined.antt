@@ -6,6 +6,8 @@ use Prim.Native.Nat.{ℕ}
 use contract.Lifetimes.{Lfts}
 use Rattle.region.specs.declared.Overlap.{Overlap}
 use Rattle.region.specs.declared.Judged.{Judged}
+use Rattle.region.specs.declared.Range.{Range}
+use Rattle.region.specs.Overlap.{overlapAnswer}
 use Rattle.region.proofs.is_power_of_two.Reads as is-power-of-two
 use Rattle.region.proofs.validate_region.Reads as validate-region
 use Rattle.region.proofs.regions_overlap.Reads as regions-overlap
@@ -26,3 +28,7 @@ ranges-meet-once a r s e f p q = p ∙ sym q
 
 validate-region-set-once : (κs : Lfts 1) (a : _) (r s : Judged) (e f : _) → validate-region-set.Post κs a r e → validate-region-set.Post κs a s f → r ≡ s
 validate-region-set-once κs a r s e f p q = p .0 ∙ sym (q .0)
+
+-- ---- and it is the definition's answer about the very ranges given: no proved caller asks this
+regions-overlap-asked : (a b : Range) (r : Overlap) (e : _) → regions-overlap.Post tt (a, (b, tt)) r e → r ≡ overlapAnswer a b
+regions-overlap-asked a b r e q = q

@@ -3,18 +3,20 @@
 use mathlib.Core.Path.{_≡_, refl, sym, _∙_, ap, ap₂}
 use mathlib.Core.Bool.{Bool, true, false, not}
 use mathlib.Core.List.{List, [], _∷_}
-use mathlib.Core.Logic.{_↔_, Iff·trans}
-use Prim.Native.Nat.{ℕ, _+_, _%_, _≤_, _<_}
+use mathlib.Core.Logic.{_↔_, _⊎_, Iff·trans}
+use Prim.Native.Nat.{ℕ, _+_, _*_, _/_, _%_, _≤_, _<_}
 use native.Mathlib.Omega.{arith}
 use lib.Dec.{ltb, eqb, lit<}
+use lib.ListN.{length}
 use Rattle.laws.specs.Pick.{pick}
 use Rattle.laws.specs.Power.{isPow2}
 use Rattle.region.specs.declared.Range.{Range}
 use Rattle.region.specs.declared.Judged.{Judged}
 use Rattle.region.specs.declared.Judged.the-variants.{Valid, Short, Unsound, Pair}
 use Rattle.region.specs.Sound.{minRegionSize, highestEnd, soundness, regionNo}
-use Rattle.region.specs.List.{judged, numberOf, placesOf, listNo, listPlaces, AllSound, Apart, First, Says}
+use Rattle.region.specs.List.{recordAt, records, judged, numberOf, placesOf, listNo, listPlaces, AllSound, Apart, First, Says}
 use Rattle.region.proofs.ListLaws.{number-due, places-due, list-exactly}
+use Rattle.region.proofs.OverlapLaws.{overlaps-exactly, apart-exactly}
 
 -- one region's number is at most 5
 pub region-number : (base size : ℕ) → regionNo base size < 6
@@ -90,3 +92,14 @@ module _ (at : ℕ → Range) (have n : ℕ) where
       by Short s e = s
       by (Unsound i k) s e = absurd (omega (arith, e, s .3, region-number (at i .base) (at i .size)))
       by (Pair i j) s e = absurd (omega arith)
+
+  -- ---- in whole numbers: records are apart if one ends where the other begins, or before; a pair by both halves of the formula
+  pub apart-bytes : Apart at n ↔ ((i j : ℕ) → i < j → j < n → (at j .base + at j .size ≤ at i .base) ⊎ (at i .base + at i .size ≤ at j .base))
+  apart-bytes = (λ a i j h k. apart-exactly (at i) (at j) .0 (a i j h k), λ f i j h k. apart-exactly (at i) (at j) .1 (f i j h k))
+
+  pub pair-bytes : (i j : ℕ) → First at n i j → (at i .base < at j .base + at j .size) × (at j .base < at i .base + at i .size)
+  pair-bytes i j f = overlaps-exactly (at i) (at j) .0 (f .passes)
+
+-- flat words: 8 exactly if they are fewer than three for each of the n records
+pub words-8 : (ws : List ℕ) (n : ℕ) → (listNo (recordAt ws) (records ws) n ≡ 8) ↔ (length ws < 3 * n)
+words-8 ws n = Iff·trans (number-8 (recordAt ws) (records ws) n) (λ h. omega (arith, h), λ h. omega (arith, h))

@@ -9,6 +9,9 @@ use Rattle.table.specs.declared.Added.{Added}
 use Rattle.table.specs.declared.Covered.{Covered}
 use Rattle.table.specs.declared.numbers.Parted.{Parted}
 use Rattle.table.specs.declared.numbers.Slotted.{Slotted}
+use Rattle.table.specs.Numbers.{slots}
+use Rattle.table.specs.Table.{cellAnswer}
+use Rattle.table.specs.Covers.{coverAnswer}
 use Rattle.table.proofs.numbers.Part.new.Reads as part-new
 use Rattle.table.proofs.numbers.Part.number.Reads as part-number
 use Rattle.table.proofs.numbers.Slot.new.Reads as slot-new
@@ -53,3 +56,10 @@ cell-once a r s e f p q = p ∙ sym q
 
 entry-of-once : (k : _) (a : _) (r s : Entry) (e f : _) → entry-of.Post k a r e → entry-of.Post k a s f → r ≡ s
 entry-of-once k a r s e f p q = p ∙ sym q
+
+-- ---- and it is the definition's answer about the very arguments given: no proved caller asks these
+covers-addr-asked : (t : Table) (p a : ℕ) (r : Covered) (e : _) → covers-addr.Post tt (t, (p, (a, tt))) r e → r ≡ coverAnswer slots t p a
+covers-addr-asked t p a r e q = q
+
+cell-asked : (t : Table) (i : ℕ) (r : Entry) (e : _) → cell.Post tt (t, (i, tt)) r e → r ≡ cellAnswer slots t i
+cell-asked t i r e q = q

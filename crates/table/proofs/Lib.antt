@@ -6,6 +6,7 @@ pub mod LawfulLaws
 pub mod CoversLaws
 pub mod RefusalLaws
 pub mod AddLaws
+pub mod BytesLaws
 pub mod KeepLaws
 pub mod BuiltLaws
 pub mod Determined

@@ -4,6 +4,7 @@ use mathlib.Core.Path.{_≡_, refl}
 use mathlib.Core.Bool.{true, false}
 use mathlib.Core.List.{List, [], _∷_, map}
 use Prim.Native.Nat.{ℕ}
+use lib.ListN.{getD}
 use Rattle.laws.specs.Search.{first, lowest}
 use Rattle.laws.specs.Power.{log2, isPow2}
 use Rattle.region.specs.Sound.{soundness, regionNo}
@@ -14,7 +15,7 @@ use Rattle.table.specs.Table.{emptyTable, slotEntry}
 use Rattle.table.specs.Lawful.{clashAt, lawfulPart, lawful}
 use Rattle.table.specs.Covers.{covers}
 use Rattle.table.specs.Builder.{overlapsAny, firstFree, full, refusals, builderNo, tryAdd}
-use Rattle.table.specs.Worked.{run, dues, after, filled, cases, unsoundTable, clashingTable, rubbishTable, topTable}
+use Rattle.table.specs.Worked.{run, dues, after, filled, cases, unsoundTable, clashingTable, rubbishTable, topTable, holedTable}
 
 worked : map (run (emptyTable slots)) cases ≡ map dues cases
 unfolding tryAdd builderNo refusals full firstFree overlapsAny lawful lawfulPart clashAt slotEntry soundness regionNo overlaps isPow2 log2 lowest first
@@ -41,3 +42,13 @@ fullness = refl
 top : map (covers slots topTable 0) (0xFFFF_FFEF ∷ 0xFFFF_FFF0 ∷ 0xFFFF_FFFF ∷ 0 ∷ 47 ∷ []) ≡ (false ∷ true ∷ true ∷ false ∷ false ∷ [])
 unfolding covers slotEntry lowest first
 top = refl
+
+-- what is not enabled covers nothing
+rubbish : map (covers slots rubbishTable 0) (7 ∷ 30 ∷ 54 ∷ []) ≡ (false ∷ false ∷ false ∷ [])
+unfolding covers slotEntry lowest first
+rubbish = refl
+
+-- ---- the lowest slot that isn't enabled is taken, also between two that are: place 17, and no other
+holed : map (λ i. getD (tryAdd slots holedTable 2 request .table .base) i 9) (16 ∷ 17 ∷ 18 ∷ 19 ∷ []) ≡ (0 ∷ 1024 ∷ 64 ∷ 0 ∷ [])
+unfolding tryAdd builderNo refusals full firstFree overlapsAny lawful lawfulPart clashAt slotEntry soundness regionNo overlaps isPow2 log2 lowest first
+holed = refl

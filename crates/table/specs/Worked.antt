@@ -60,6 +60,10 @@ rubbishTable = withEntry (withEntry (emptyTable slots) (flatIndex slots 0 3) (en
 abbrev pub topTable : Table
 topTable = withEntry (withEntry (emptyTable slots) (flatIndex slots 0 0) (entry 0xFFFF_FFF0 64 true)) (flatIndex slots 0 1) (entry 47 0 true)
 
+-- slots 0 and 2 of partition 2 enabled, and slot 1 between them not
+abbrev pub holedTable : Table
+holedTable = withEntry (withEntry (emptyTable slots) (flatIndex slots 2 0) (entry 0 32 true)) (flatIndex slots 2 2) (entry 64 32 true)
+
 -- the table after a history
 abbrev pub after : Table → List Step → Table
 after t [] = t
