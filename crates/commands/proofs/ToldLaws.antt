@@ -1,14 +1,14 @@
 -- What a line asks to be told, its numbers each in its place; what `list` gives; what is held before the first byte; how lines are counted. The lines are
 -- computed, a list has up to 64 records by the law of the search, and lines are counted one after the other. Assumes nothing.
-use mathlib.Core.Path.{_≡_, refl, sym, _∙_, ap}
+use mathlib.Core.Path.{_≡_, refl, sym, _∙_, ap, subst}
 use mathlib.Core.Bool.{true, false, true≢false}
 use mathlib.Core.Logic.{_↔_}
 use mathlib.Core.List.{List, [], _∷_, _++_}
 use Prim.Native.Nat.{ℕ, suc, _+_, _≤_, _<_, zero-le}
 use Prim.Native.String.{String}
 use native.Mathlib.Omega.{arith}
-use borrow.Author.Tests.{lt-ltb}
-use lib.ListN.{length, take, replicate}
+use borrow.Author.Tests.{lt-ltb, eqb-true, ne-eqb}
+use lib.ListN.{length, getD, take, replicate}
 use Rattle.laws.specs.Search.{Least, first, lowest}
 use Rattle.laws.proofs.SearchLaws.{lowest-least}
 use Rattle.laws.proofs.TestLaws.{le-exactly}
@@ -19,14 +19,15 @@ use Rattle.text.specs.Ascii.{ascii}
 use Rattle.text.specs.Digits.{run}
 use Rattle.text.specs.Read.{numberAt, newline}
 use Rattle.form.specs.Form.{valueAt, kept, readOn, formed}
-use Rattle.form.specs.Choice.{onward, times, follows, repeats}
+use Rattle.form.specs.Choice.{firstOf, onward, times, follows, repeats}
 use Rattle.commands.specs.declared.Command.{Command}
-use Rattle.commands.specs.declared.Command.the-variants.{Tell}
+use Rattle.commands.specs.declared.Command.the-variants.{Bad, Tell}
 use Rattle.commands.specs.declared.Tell.the-variants.{Pow2, Region, Overlap, Records, Size, Rasr, Covers, EntryAt, Writes, Ask, Pairs, Record}
-use Rattle.commands.specs.Command.{listHead, recordForm, isList, meant, commandOf}
+use Rattle.commands.specs.Command.{listHead, recordForm, applyHead, tripleForm, isList, isApply, rows, meant, commandOf}
 use Rattle.commands.specs.Given.{recordsOf, recordCount}
 use Rattle.commands.specs.Obeyed.{nothingHeld}
 use Rattle.commands.specs.Reading.{Held, ended, takenAll, start, inputOf}
+use Rattle.commands.proofs.MadeLaws.{meant-none}
 use Rattle.commands.proofs.ReadingLaws.{OneLine, Lines, Ready, start-ready, line-ready, after, taken-pieces}
 
 abbrev asks : String → Command
@@ -68,7 +69,7 @@ module _ (line : List ℕ) where
   least : Least (follows line listHead recordForm) 0 65 many
   least = lowest-least (follows line listHead recordForm) zero-le
 
-  pub list-exactly : (isList line ≡ true) ↔ ((k : ℕ) × (k ≤ 64) × (follows line listHead recordForm k ≡ true))
+  pub list-exactly : (isList line ≡ true) ↔ ((k : ℕ) × (k ≤ 64) × (follows line (ascii "list count=#") (ascii " base=# size=# attr=#") k ≡ true))
   unfolding repeats
   list-exactly = (
     λ e. let few : many ≤ 64 = le-exactly _ _ .0 e in (many, few, least .passes (omega arith)),
@@ -78,6 +79,46 @@ module _ (line : List ℕ) where
         let all : many ≤ 64 = omega arith in
         le-exactly _ _ .1 all,
   )
+
+  -- ten triples, and no other number of them
+  pub apply-means : isApply line ≡ true → follows line (ascii "apply") (ascii " rnr=# rbar=# rasr=#") 10 ≡ true
+  unfolding repeats
+  apply-means e =
+      let at : lowest (follows line applyHead tripleForm) 0 11 ≡ 10 = eqb-true _ _ e in
+      subst (λ (k : ℕ). follows line applyHead tripleForm k ≡ true) at (lowest-least (follows line applyHead tripleForm) zero-le .passes (omega (arith, at)))
+
+-- ---- every other form, and that a line of none is bad
+abbrev known : List (List ℕ)
+known =
+    ascii "pow2 n=#"
+    ∷ ascii "region base=# size=#"
+    ∷ ascii "overlap base=# size=# base=# size=#"
+    ∷ ascii "size size=#"
+    ∷ ascii "rasr size=# write=!"
+    ∷ ascii "empty"
+    ∷ ascii "add part=# base=# size=# write=!"
+    ∷ ascii "covers part=# addr=#"
+    ∷ ascii "entry at=#"
+    ∷ ascii "hand at=# enabled=! base=# size=# write=!"
+    ∷ ascii "writes part=#"
+    ∷ ascii "ask kind=read addr=# priv=!"
+    ∷ ascii "ask kind=write addr=# priv=!"
+    ∷ ascii "reg rnr=# rbar=# rasr=#"
+    ∷ ascii "mpu"
+    ∷ ascii "hand-slot slot=# rbar=# rasr=#"
+    ∷ ascii "hand-ctrl ctrl=#"
+    ∷ ascii "start part=#"
+    ∷ ascii "step"
+    ∷ ascii "whole part=#"
+    ∷ ascii "switch"
+    ∷ ascii "hand-triple n=# rnr=# rbar=# rasr=#"
+    ∷ ascii "hand-at at=#"
+    ∷ []
+
+-- a line that is not empty, no comment, no list and no apply
+pub other-bad : (line : List ℕ) → ¬ (length line ≡ 0) → ¬ (getD line 0 0 ≡ 35) → isList line ≡ false → isApply line ≡ false → firstOf line 0 known .found ≡ false → commandOf line ≡ Bad
+unfolding commandOf
+other-bad line some mark l p none = rw (ne-eqb (length line) 0 some, ne-eqb (getD line 0 0) 35 mark, l, p) (meant-none line 0 rows none)
 
 -- ---- before the first byte: an empty table, an MPU and a switch of zeros
 begins : nothingHeld
