@@ -70,7 +70,7 @@ module _ (bs : List ℕ) (h : Held) (o : OneLine bs) (r : Ready h) where
   abbrev g : Gathering
   g = gatherAll bs (part h)
 
-  after : takenAll (bs ++ (newline ∷ [])) h ≡ taken (record { reading = record { console = h .reading .console; held = g .held; lines = h .reading .lines }; line = g .line }) newline
+  pub after : takenAll (bs ++ (newline ∷ [])) h ≡ taken (record { reading = record { console = h .reading .console; held = g .held; lines = h .reading .lines }; line = g .line }) newline
   unfolding takenAll
   after = taken-pieces bs (newline ∷ []) h ∙ ap (λ (x : Held). taken x newline) (line-gathered bs h o)
 

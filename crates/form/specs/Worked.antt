@@ -56,4 +56,5 @@ choices =
     ∷ record { got = repeats (ascii "sum n=1 n=2 n=3") (ascii "sum") (ascii " n=#") 3 ∷ []; due = 3 ∷ [] }
     ∷ record { got = repeats (ascii "sum n=1 n=") (ascii "sum") (ascii " n=#") 3 ∷ []; due = 3 ∷ [] }
     ∷ record { got = repeats (ascii "add n=1") (ascii "sum") (ascii " n=#") 3 ∷ []; due = 3 ∷ [] }
+    ∷ record { got = repeats (ascii " n=1") (ascii "sum") (ascii " n=#") 3 ∷ []; due = 3 ∷ [] }
     ∷ []
