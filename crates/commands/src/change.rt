@@ -14,7 +14,7 @@ use switch::Switch;
 use table::{CELLS, Entry, Request, Table};
 
 // What the commands work on.
-#[derive(Drop)]
+#[derive(Clone, Copy)]
 pub struct Console {
     pub table: Table,
     pub switch: Switch,

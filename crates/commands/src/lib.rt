@@ -1,4 +1,6 @@
 // The console's commands: what a line asks for, and what it does to a table and a switch. Nothing here reads or writes.
+#![tactic(auto)]
+
 mod change;
 mod given;
 mod reading;
@@ -22,7 +24,7 @@ use table::{CELLS, Entry, Request};
 const COMMENT: u8 = b'#';
 
 // What a line asks for, with its numbers. A bad line and a silent one are commands too: they ask for nothing.
-#[derive(Drop)]
+#[derive(Clone, Copy)]
 pub enum Command {
     Bad,
     Silent,
@@ -33,7 +35,7 @@ pub enum Command {
 }
 
 // What is told; nothing changes.
-#[derive(Drop)]
+#[derive(Clone, Copy)]
 pub enum Tell {
     Pow2(u32),
     Region(Range),
@@ -50,7 +52,7 @@ pub enum Tell {
 }
 
 // What changes the table.
-#[derive(Drop)]
+#[derive(Clone, Copy)]
 pub enum ToTable {
     Empty,
     Add(u32, Request),
@@ -58,7 +60,7 @@ pub enum ToTable {
 }
 
 // What changes the MPU of the switch record. The ten triples of `Apply` stand beside it.
-#[derive(Drop)]
+#[derive(Clone, Copy)]
 pub enum ToMpu {
     Reg(Write),
     HandSlot(u32, Pair),
@@ -67,7 +69,7 @@ pub enum ToMpu {
 }
 
 // What changes the switch record.
-#[derive(Drop)]
+#[derive(Clone, Copy)]
 pub enum ToSwitch {
     Start(u32),
     Step,
@@ -77,7 +79,7 @@ pub enum ToSwitch {
 }
 
 // The numbers of a line, in turn.
-#[derive(Drop)]
+#[derive(Clone, Copy)]
 struct Numbers {
     a: u32,
     b: u32,

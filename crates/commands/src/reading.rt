@@ -7,7 +7,7 @@ use crate::{Console, line_command, nothing_held, obey, triples_of};
 const NEWLINE: u8 = b'\n';
 
 // What is read so far: how many bytes of its line are held, and how many lines were ended.
-#[derive(Drop)]
+#[derive(Clone, Copy)]
 pub struct Reading {
     pub console: Console,
     pub held: usize,

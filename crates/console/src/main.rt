@@ -1,5 +1,7 @@
 // Commands from standard input, one a line, and the answer to each on standard output: a table and a switch, tried by hand.
 // What a line asks for and what it changes is the library's (`commands`); here it is read, and its answer printed from what was held before it.
+#![tactic(auto)]
+
 mod print;
 mod regions;
 mod registers;
@@ -17,7 +19,7 @@ use table::Table;
 // A longer line is a bad one.
 const LONGEST_LINE: usize = 4095;
 
-#[derive(Drop)]
+#[derive(Clone, Copy)]
 struct Turn {
     reading: Reading,
     ended: bool,

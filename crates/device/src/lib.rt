@@ -1,5 +1,7 @@
 // The modelled MPU: one register write, and the answer to one byte access.
 // From the ARMv7-M manual, as the paper narrows it. Every routine takes any value of its types.
+#![tactic(auto)]
+
 ghost use Rattle.std.specs.Prelude.{◌≡◌, ◌<◌, ◌/◌, ◌%◌};
 ghost use Rattle.laws.specs.Search.{some, highest};
 ghost use Rattle.device.specs.Registers.{slot_count, allowed};
@@ -39,7 +41,7 @@ const UNDEFINED: u32 = 4;
 const ROWS: [u32; 8] = [0o00, 0o03, 0o13, 0o33, 0o44, 0o01, 0o11, 0o44];
 
 // What one register write sends.
-#[derive(Drop)]
+#[derive(Clone, Copy)]
 pub struct Write {
     pub rnr: u32,
     pub rbar: u32,
@@ -47,40 +49,40 @@ pub struct Write {
 }
 
 // One slot.
-#[derive(Drop)]
+#[derive(Clone, Copy)]
 pub struct Pair {
     pub rbar: u32,
     pub rasr: u32,
 }
 
-#[derive(Drop)]
+#[derive(Clone, Copy)]
 pub struct Mpu {
     pub slots: [Pair; SLOTS],
     pub control: u32,
 }
 
 // The MPU after a write, beside a refusal's number.
-#[derive(Drop)]
+#[derive(Clone, Copy)]
 pub struct Written {
     pub no: u32,
     pub mpu: Mpu,
 }
 
-#[derive(Drop)]
+#[derive(Clone, Copy)]
 pub enum Kind {
     Read,
     Write,
 }
 
 // An access of one byte.
-#[derive(Drop)]
+#[derive(Clone, Copy)]
 pub struct Access {
     pub address: u32,
     pub kind: Kind,
     pub privileged: bool,
 }
 
-#[derive(Drop)]
+#[derive(Clone, Copy)]
 pub enum Answer {
     // The private bus, not judged.
     Private,

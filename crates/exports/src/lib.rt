@@ -1,5 +1,7 @@
 // The boundary to programs in other languages: each call does many operations, on words that the caller lends.
 // Every routine takes any input: a word beyond the end of a slice reads as 0.
+#![tactic(auto)]
+
 ghost use Rattle.std.specs.Prelude.{◌≡◌, ◌+◌, ◌^◌, ◌<◌, ◌≤◌, length, set};
 ghost use Rattle.laws.specs.Listed.{listed};
 ghost use Rattle.table.specs.Numbers.{slots};
@@ -28,7 +30,7 @@ const LOG_END: usize = 47;
 const FOUND: usize = 3;
 
 // What is found of one list.
-#[derive(Drop)]
+#[derive(Clone, Copy)]
 struct Found {
     no: u32,
     i: u32,

@@ -1,4 +1,6 @@
 // Register fields: SIZE, AP and the value of RASR for an enabled entry. From mpu_switch.rs.
+#![tactic(auto)]
+
 ghost use Rattle.std.specs.Prelude.{◌≡◌, true, ◌≤◌};
 ghost use Rattle.laws.specs.Power.{is_pow2};
 ghost use Rattle.region.specs.Sound.{min_region_size};
@@ -11,14 +13,14 @@ const AP_READ_ONLY: u32 = 6;
 const AP_UNIT: u32 = 16777216;
 
 // What RASR encodes of an enabled entry.
-#[derive(Drop)]
+#[derive(Clone, Copy)]
 pub struct Attributes {
     pub size: u32,
     pub writable: bool,
 }
 
 // A field's value beside a refusal's number; the value is 0 where it is refused.
-#[derive(Drop)]
+#[derive(Clone, Copy)]
 pub struct Field {
     pub no: u32,
     pub value: u32,

@@ -1,5 +1,7 @@
 // Lines of commands: a line gathered byte by byte, and its numbers read where it has a given form.
 // A form is the line itself, with `#` where a number stands and `!` where a mark does, 0 or 1: `add part=# base=# size=# write=!`.
+#![tactic(auto)]
+
 ghost use Rattle.std.specs.Prelude.{◌≡◌, ◌+◌, ◌<◌, ◌≤◌, ◌^◌, length, set};
 ghost use Rattle.form.specs.Form.{no_form, begun, takes_number, no_mark, value_at, stands_at, kept, moved_on, read_on, form_at, form_of};
 ghost use Rattle.form.specs.Gather.{gathered};
@@ -17,7 +19,7 @@ const MARK: u8 = b'!';
 const NEWLINE: u8 = b'\n';
 
 // A form that is read: the place after it, how many numbers it has, and the numbers in turn. All zeros where it is not there.
-#[derive(Drop)]
+#[derive(Clone, Copy)]
 pub struct Formed {
     pub read: bool,
     pub next: usize,
@@ -26,7 +28,7 @@ pub struct Formed {
 }
 
 // Which of several forms a line has, counted from 0, and the numbers in turn. All zeros where it has none.
-#[derive(Drop)]
+#[derive(Clone, Copy)]
 pub struct Chosen {
     pub found: bool,
     pub at: usize,
@@ -34,7 +36,7 @@ pub struct Chosen {
 }
 
 // Forms tried in turn: whether the line has one, how many were passed, where the next begins, and the line's numbers.
-#[derive(Drop)]
+#[derive(Clone, Copy)]
 struct Trying {
     found: bool,
     at: usize,

@@ -1,4 +1,6 @@
 // A switch's log as text, into lent bytes. All of it or nothing: where fewer bytes are left than ten lines can take, nothing is written.
+#![tactic(auto)]
+
 ghost use Rattle.std.specs.Prelude.{◌≡◌, ◌+◌, ◌≤◌, length};
 ghost use Rattle.text.specs.Put.{over};
 ghost use Rattle.journal.specs.Journal.{longest_line, longest_log, write_text, log_of, put_log, after_log};

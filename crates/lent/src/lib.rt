@@ -1,4 +1,6 @@
 // Two forms that work on what they are lent: an MPU record, of which one place is written, and a list of region records, only read. Both are thin: what decides is by value.
+#![tactic(auto)]
+
 ghost use Rattle.std.specs.Prelude.{◌≡◌, take};
 ghost use Rattle.device.specs.Registers.{slot_count};
 ghost use Rattle.device.specs.RegisterWrite.{write_register};
@@ -13,7 +15,7 @@ use region::{Judged, Range};
 pub const HELD: usize = 64;
 
 // One record of a region list. attr is never read.
-#[derive(Drop)]
+#[derive(Clone, Copy)]
 pub struct MpuRegion {
     pub base: u32,
     pub size: u32,

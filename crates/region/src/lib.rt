@@ -1,5 +1,7 @@
 // Region arithmetic: power of two, one region, the overlap of two ranges, a region list.
 // From mpu.rs. Every routine takes any input and refuses by the numbers of the paper.
+#![tactic(auto)]
+
 ghost use Rattle.std.specs.Prelude.{◌≡◌, ◌*◌, ◌+◌, ◌^◌, ◌<◌, ◌≤◌, ltb, length};
 ghost use Rattle.laws.specs.Pick.{pick};
 ghost use Rattle.laws.specs.Power.{is_pow2};
@@ -16,21 +18,21 @@ const LAST_BYTE: u64 = 4294967295;
 // Above the end of every range.
 const ENDS: u64 = 8589934592;
 
-#[derive(Drop)]
+#[derive(Clone, Copy)]
 pub struct Range {
     pub base: u32,
     pub size: u32,
 }
 
 // Whether two ranges overlap, beside a refusal's number.
-#[derive(Drop)]
+#[derive(Clone, Copy)]
 pub struct Overlap {
     pub no: u32,
     pub yes: bool,
 }
 
 // What a region list is found to be.
-#[derive(Drop)]
+#[derive(Clone, Copy)]
 pub enum Judged {
     Valid,
     // The count is beyond the whole records.

@@ -1,4 +1,6 @@
 // The ten register writes that switch the MPU to a partition. From mpu_switch.rs.
+#![tactic(auto)]
+
 ghost use Rattle.std.specs.Prelude.{◌≡◌, true, ◌<◌, ◌≤◌, replicate};
 ghost use Rattle.region.specs.Sound.{region_no};
 ghost use Rattle.device.specs.Registers.{ctrl};
@@ -18,7 +20,7 @@ const DISABLE: u32 = 0;
 const ENABLE: u32 = 1;
 
 // The writes beside a refusal's number; ten triples of zeros where it refuses.
-#[derive(Drop)]
+#[derive(Clone, Copy)]
 pub struct Sequence {
     pub no: u32,
     pub writes: [Write; WRITES],

@@ -1,4 +1,6 @@
 // A switch to a partition: stepwise and whole, with a log of what was written. From mpu_switch.rs.
+#![tactic(auto)]
+
 ghost use Rattle.std.specs.Prelude.{◌≡◌, List, ◌≤◌, length};
 ghost use Rattle.table.specs.Numbers.{slots};
 ghost use Rattle.switch.specs.Switch.{no_log, fresh, started, stepped, step_no, step_due, whole};
@@ -9,7 +11,7 @@ use sequence::WRITES;
 use table::Table;
 
 // A switch under way: the MPU, the ten triples, how many of them were written, and what was.
-#[derive(Drop)]
+#[derive(Clone, Copy)]
 pub struct Switch {
     pub mpu: Mpu,
     pub writes: [Write; WRITES],
@@ -18,28 +20,28 @@ pub struct Switch {
 }
 
 // A switch beside a number. LOOK AT THE NUMBER: nothing in a switch says that its start was refused; it holds zeros and can be stepped like any other.
-#[derive(Drop)]
+#[derive(Clone, Copy)]
 pub struct Started {
     pub no: u32,
     pub switch: Switch,
 }
 
 // What one step did.
-#[derive(Drop)]
+#[derive(Clone, Copy)]
 pub enum Did {
     Wrote,
     Finished,
     Refused(u32),
 }
 
-#[derive(Drop)]
+#[derive(Clone, Copy)]
 pub struct Stepped {
     pub did: Did,
     pub switch: Switch,
 }
 
 // Ten triples applied: the number, the MPU after, and what was written.
-#[derive(Drop)]
+#[derive(Clone, Copy)]
 pub struct Applied {
     pub no: u32,
     pub mpu: Mpu,

@@ -1,4 +1,6 @@
 // Switches an MPU of zeros to a partition that was granted two regions, and writes the switch's log. A refusal writes its number alone.
+#![tactic(auto)]
+
 use device::{Mpu, Pair};
 use libc::STDOUT_FILENO;
 use table::{Request, Table};

@@ -1,4 +1,6 @@
 // The table: what each partition is granted. The empty table, the builder, covering. From mpu_switch.rs.
+#![tactic(auto)]
+
 mod numbers;
 
 ghost use Rattle.std.specs.Prelude.{◌≡◌, ◌&&◌, ◌+◌, ◌<◌, ◌≤◌, ltb, leb};
@@ -15,7 +17,7 @@ use numbers::{PARTS, SLOTS, flat};
 use region::Range;
 
 // The four arrays of the source, flat: slot s of partition p lies at 8 x p + s.
-#[derive(Drop)]
+#[derive(Clone, Copy)]
 pub struct Table {
     pub base: [u32; CELLS],
     pub size: [u32; CELLS],
@@ -24,7 +26,7 @@ pub struct Table {
 }
 
 // What stands at one place of the table.
-#[derive(Drop)]
+#[derive(Clone, Copy)]
 pub struct Entry {
     pub base: u32,
     pub size: u32,
@@ -33,7 +35,7 @@ pub struct Entry {
 }
 
 // What a partition asks for.
-#[derive(Drop)]
+#[derive(Clone, Copy)]
 pub struct Request {
     pub base: u32,
     pub size: u32,
@@ -41,21 +43,21 @@ pub struct Request {
 }
 
 // The builder's answer: a number, and the table, as received where the number refuses.
-#[derive(Drop)]
+#[derive(Clone, Copy)]
 pub struct Added {
     pub no: u32,
     pub table: Table,
 }
 
 // Whether a byte is covered, beside a refusal's number.
-#[derive(Drop)]
+#[derive(Clone, Copy)]
 pub struct Covered {
     pub no: u32,
     pub yes: bool,
 }
 
 // What is asked of an entry: is its place free, is it unsound, does it meet a range, does it cover a byte?
-#[derive(Drop)]
+#[derive(Clone, Copy)]
 enum Question {
     Free,
     Unsound,

@@ -10,19 +10,19 @@ pub const SLOTS: u32 = 8;
 // The places of a table: a slot of each partition.
 pub const CELLS: usize = 32;
 
-#[derive(Drop)]
+#[derive(Clone, Copy)]
 pub struct Part(u32);
 
-#[derive(Drop)]
+#[derive(Clone, Copy)]
 pub struct Slot(u32);
 
-#[derive(Drop)]
+#[derive(Clone, Copy)]
 pub enum Parted {
     Is(Part),
     Beyond,
 }
 
-#[derive(Drop)]
+#[derive(Clone, Copy)]
 pub enum Slotted {
     Is(Slot),
     Beyond,

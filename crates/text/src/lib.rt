@@ -1,5 +1,7 @@
 // Decimal numbers, words and the log's lines, into and out of lent bytes.
 // Every routine takes any input. What does not fit is not begun, and a buffer that is refused is left as it was.
+#![tactic(auto)]
+
 ghost use Rattle.std.specs.Prelude.{◌≡◌, ◌++◌, ◌+◌, ◌<◌, ◌≤◌, length, get_or, take, drop};
 ghost use Rattle.text.specs.Digits.{most_digits, digits, is_digit, run};
 ghost use Rattle.text.specs.Put.{over, put, after};
@@ -20,7 +22,7 @@ const MOST_DIGITS: usize = 10;
 const LONGEST_LINE: usize = 60;
 
 // What comes of putting text into a buffer.
-#[derive(Drop)]
+#[derive(Clone, Copy)]
 pub enum Put {
     // It is there, and this is the place after it.
     At(usize),
@@ -29,21 +31,21 @@ pub enum Put {
 }
 
 // Where something is found.
-#[derive(Drop)]
+#[derive(Clone, Copy)]
 pub enum Found {
     At(usize),
     Nothing,
 }
 
 // A number that is read, and the place after it.
-#[derive(Drop)]
+#[derive(Clone, Copy)]
 pub enum Number {
     Value(u32, usize),
     Nothing,
 }
 
 // One line of the log: a register write and its count.
-#[derive(Drop)]
+#[derive(Clone, Copy)]
 pub struct Line {
     pub n: u32,
     pub rnr: u32,
@@ -52,7 +54,7 @@ pub struct Line {
 }
 
 // A line that is read, and the place after it.
-#[derive(Drop)]
+#[derive(Clone, Copy)]
 pub enum LineRead {
     Text(Line, usize),
     Nothing,
