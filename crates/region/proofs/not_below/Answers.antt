@@ -7,8 +7,7 @@ use borrow.Author.Rules.{rules}
 use borrow.Author.Tests.{ltb-true, ltb-false}
 use lib.Dec.{ltb}
 use Rattle.laws.specs.Pick.{pick}
-use Rattle.region.proofs.not_below.Statement.{statement}
-use Rattle.region.proofs.not_below.Tie as tie
+use Rattle.region.proofs.not_below.Goals as goal
 
 abbrev reached : ℕ → ℕ → ℕ
 reached base end = (8589934592 + base - end) / 8589934592
@@ -20,13 +19,8 @@ as_number base end b e = by (ltb base end) refl
     by true q = let h : base < end = ltb-true base end q in omega arith
     by false q = let h = ltb-false base end q in omega (arith, h)
 
-returns : tie.Need-returns
+pub returns : goal.returns
 returns c =
     let b : c.args.base < 4294967296 = search rules in
     let e : c.args.end < 8589934592 = search rules in
     (omega arith, as_number c.args.base c.args.end b e)
-
-pub not_below_spec : {M : Type 1} → statement M
-not_below_spec =
-    tie.close
-    (tie.spec (λ c. search rules) (λ c. search rules) returns)
