@@ -11,14 +11,8 @@ use lib.ListN.{length, drop, set, length-set, drop_of_length-le}
 use lib.Seq.{append_snoc}
 use Rattle.text.specs.Digits.{zero_byte, largest, digits}
 use Rattle.text.proofs.DigitsLaws.{digits_one, digits_more}
-use Rattle.text.proofs.spell.Statement.{statement}
-use Rattle.text.proofs.spell.Tie as tie
-
-abbrev invariant-loop : tie.invariant-loop
-invariant-loop text₀ n rest₀ i₀ text rest i = (length text ≡ 10) × (i < 10) × (rest ≤ largest) × (rest < 10 ^ (i + 1)) × (digits n ≡ digits rest ++ drop (i + 1) text)
-
-abbrev decreases-loop : tie.decreases-loop
-decreases-loop text₀ n rest₀ i₀ text rest i = rest
+use Rattle.text.proofs.spell.Goals as goal
+use Rattle.text.proofs.spell.Goals.{In-loop-rest}
 
 -- what a store at i puts in front of the text after it
 drop-set : (l : List ℕ) (i x : ℕ) → i < length l → drop i (set l i x) ≡ x ∷ drop (suc i) l
@@ -41,24 +35,18 @@ another : (i rest : ℕ) → 10 ≤ rest → rest < 10 ^ (i + 1) → i - 1 + 1 �
 another zero rest h k = absurd (omega arith)
 another (suc i) rest h k = omega arith
 
-again : (c : tie.In-loop invariant-loop decreases-loop) → let l = c.before.loop in l.i - 1 + 1 ≡ l.i
-again c = let l = c.before.loop in another l.i l.rest c.loop-test.true l.invariant.3
+again : (c : In-loop-rest) → let l = c.loop-rest in l.i - 1 + 1 ≡ l.i
+again c = let l = c.loop-rest in another l.i l.rest c.loop-rest-test.true l.invariant.3
 
-loop-holds : tie.Need-loop-init invariant-loop decreases-loop
-loop-holds c = (search rules, search rules, search rules, omega (arith, c.ranges.n), sym (ap (λ (l : List ℕ). digits c.args.n ++ l) (drop_of_length-le c.args.text.now {i = 10} (omega arith)) ∙ append-nil _))
+pub loop-rest-init : goal.loop-rest-init
+loop-rest-init c = (search rules, search rules, search rules, omega (arith, c.ranges.n), sym (ap (λ (l : List ℕ). digits c.args.n ++ l) (drop_of_length-le c.args.text.now {i = 10} (omega arith)) ∙ append-nil _))
 
-loop-again : tie.Need-loop-preserved invariant-loop decreases-loop
-loop-again c =
-    let l = c.before.loop in
-    (simp length-set l.invariant.0, search rules, search rules, rw (again c) (omega (arith, tenfold l.i)), rw (again c) (l.invariant.4 ∙ more l.text l.i l.rest (omega arith) l.invariant.2 c.loop-test.true))
+pub loop-rest-preserved : goal.loop-rest-preserved
+loop-rest-preserved c =
+    let l = c.loop-rest in
+    (simp length-set l.invariant.0, search rules, search rules, rw (again (goal.at.loop-rest-preserved c).In-loop-rest) (omega (arith, tenfold l.i)), rw (again (goal.at.loop-rest-preserved c).In-loop-rest) (l.invariant.4 ∙ more l.text l.i l.rest (omega arith) l.invariant.2 c.loop-rest-test.true))
 
-returns : tie.Need-returns invariant-loop decreases-loop
+pub returns : goal.returns
 returns c =
-    let l = c.before.loop in
+    let l = c.loop-rest in
     (search rules, sym (l.invariant.4 ∙ one l.text l.i l.rest (omega arith) (omega arith)))
-
-pub spell_spec : {M : Type 1} → statement M
-spell_spec =
-    tie.close
-    (tie.spec invariant-loop decreases-loop (λ c. search rules) loop-holds (λ c. search rules) (λ c. search rules) (λ c. search rules) (λ c. omega (arith, again c)) (λ c. search rules) loop-again
-    (λ c. search rules) (λ c. search rules) (λ c. search rules) (λ c. simp length-set (omega arith)) returns)
