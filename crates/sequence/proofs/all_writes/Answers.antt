@@ -1,10 +1,9 @@
 -- After i turns the array is the first i writes and what was left of it. Assumes nothing.
 use mathlib.Core.Path.{◌≡◌, refl, ◌∙◌, ap, ap₂}
-use mathlib.Core.List.{List, ◌++◌}
-use Prim.Native.Nat.{◌-◌, ◌≤◌}
+use mathlib.Core.List.{List}
 use native.Mathlib.Omega.{arith}
 use borrow.Author.Rules.{rules}
-use lib.ListN.{length, set, drop}
+use lib.ListN.{set}
 use Rattle.laws.specs.Listed.{listed}
 use Rattle.laws.proofs.ListedLaws.{fill_next, fill_end}
 use Rattle.device.specs.declared.Write.{Write}
@@ -18,7 +17,7 @@ loop-i-preserved c =
       search rules,
       refl,
       ap₂ (λ (ws : List Write) (w : Write). set ws c.loop-i.i w) c.loop-i.invariant.2 c.write_at.ensures
-          ∙ fill_next (write_at slots a.t1 a.p.0) _ (triple 0 0 0) c.loop-i.i c.loop-i-test.true,
+          ∙ fill_next (write_at slots a.t a.p.0) _ (triple 0 0 0) c.loop-i.i c.loop-i-test.true,
     )
 
 pub returns : goal.returns
@@ -26,7 +25,7 @@ unfolding writes
 returns c =
     let a = c.args in
     let ended : c.loop-i.i ≡ 10 = omega arith in
-    c.loop-i.invariant.2 ∙ fill_end (write_at slots a.t1 a.p.0) _ c.loop-i.i c.loop-i-test.false ∙ ap (listed (write_at slots a.t1 a.p.0) 0) ended
+    c.loop-i.invariant.2 ∙ fill_end (write_at slots a.t a.p.0) _ c.loop-i.i c.loop-i-test.false ∙ ap (listed (write_at slots a.t a.p.0) 0) ended
 
 pub loop-i-init : goal.loop-i-init
 loop-i-init c = (search rules, refl, refl)

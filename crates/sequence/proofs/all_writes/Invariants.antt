@@ -1,14 +1,10 @@
-use mathlib.Core.Path.{◌≡◌, refl, ◌∙◌, ap, ap₂}
-use mathlib.Core.List.{List, ◌++◌}
+use mathlib.Core.Path.{◌≡◌}
+use mathlib.Core.List.{◌++◌}
 use Prim.Native.Nat.{◌-◌, ◌≤◌}
-use native.Mathlib.Omega.{arith}
-use borrow.Author.Rules.{rules}
-use lib.ListN.{length, set, drop}
+use lib.ListN.{length, drop}
 use Rattle.laws.specs.Listed.{listed}
-use Rattle.laws.proofs.ListedLaws.{fill_next, fill_end}
-use Rattle.device.specs.declared.Write.{Write}
 use Rattle.table.specs.Numbers.{slots}
-use Rattle.sequence.specs.Sequence.{triple, write_at, writes}
+use Rattle.sequence.specs.Sequence.{write_at}
 use Rattle.sequence.proofs.all_writes.Given as goal
 
 abbrev pub invariant-loop-i : goal.invariant-loop-i

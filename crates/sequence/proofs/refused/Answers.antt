@@ -1,6 +1,5 @@
 -- Ten times the triple of zeros. Assumes nothing.
 use mathlib.Core.Path.{refl}
-use borrow.Author.Rules.{rules}
 use Rattle.sequence.proofs.refused.Goals as goal
 
 pub returns : goal.returns

@@ -1,7 +1,5 @@
 -- A sound entry's RASR is not refused, so its value is the one that the paper states. Assumes nothing.
-use mathlib.Core.Path.{◌≡◌, refl, ap, ◌∙◌}
-use Prim.Native.Nat.{ℕ}
-use borrow.Author.Rules.{rules}
+use mathlib.Core.Path.{ap, ◌∙◌}
 use Rattle.fields.specs.declared.Field.{Field}
 use Rattle.fields.proofs.RasrLaws.{rasr_accepted, size_of_sound}
 use Rattle.sequence.specs.Sequence.{triple, attributes, slot_write}
