@@ -14,7 +14,7 @@ use Rattle.commands.specs.declared.change.Console.{Console}
 use Rattle.commands.specs.Command.{command_of}
 use Rattle.commands.specs.Obeyed.{obeyed}
 use Rattle.commands.specs.Reading.{Held, taken_all}
-use Rattle.commands.proofs.ReadingLaws.{OneLine, Ready, line_after}
+use Rattle.commands.proofs.ReadingLaws.{OneLine, Ready, line_after_lem}
 
 pub empty_silent : command_of [] ≡ Silent
 unfolding command_of
@@ -33,4 +33,4 @@ bad_keeps c line ws e = rw e
 
 -- the same of a line with its newline, as it is read
 pub bad_line : (bs : List ℕ) (h : Held) → OneLine bs → Ready h → command_of bs ≡ Bad → (taken_all (bs ++ (newline ∷ [])) h).reading.console ≡ h.reading.console
-bad_line bs h o r e = line_after bs h o r ∙ rw e (pick_same (ltb 4095 (length bs)) h.reading.console)
+bad_line bs h o r e = line_after_lem bs h o r ∙ rw e (pick_same (ltb 4095 (length bs)) h.reading.console)

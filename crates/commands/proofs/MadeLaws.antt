@@ -1,12 +1,11 @@
 -- The rows by number are the rows in turn: the first form that a line has gives the command that it means. By induction on the rows. Assumes nothing.
-use mathlib.Core.Path.{◌≡◌, refl, sym, ◌∙◌}
+use mathlib.Core.Path.{◌≡◌, refl, sym}
 use mathlib.Core.Bool.{Bool, true, false, true≢false}
 use mathlib.Core.List.{List, [], ◌∷◌}
 use Prim.Native.Nat.{ℕ, zero, suc, ◌+◌, ◌≤◌, zero-le}
 use native.Mathlib.Omega.{arith}
 use borrow.Author.Tests.{eq-eqb, ne_eqb}
 use lib.ListN.{length}
-use Rattle.laws.specs.Pick.{pick}
 use Rattle.form.specs.Form.{form_of}
 use Rattle.form.specs.Choice.{first_of}
 use Rattle.commands.specs.declared.Numbers.{Numbers}

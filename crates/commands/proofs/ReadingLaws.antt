@@ -1,9 +1,9 @@
 -- Pieces may be cut anywhere: what is left of the bytes comes to the same. A line that fits is obeyed as it came, one that is too long changes nothing;
 -- so an input of whole lines is each line obeyed in turn. Assumes nothing.
-use mathlib.Core.Path.{◌≡◌, refl, sym, ◌∙◌, ap, subst⁻¹}
+use mathlib.Core.Path.{◌≡◌, refl, ◌∙◌, ap, subst⁻¹}
 use mathlib.Core.Bool.{Bool, true, false}
 use mathlib.Core.List.{List, [], ◌∷◌, ◌++◌}
-use Prim.Native.Nat.{ℕ, suc, ◌+◌, ◌≤◌, ◌<◌}
+use Prim.Native.Nat.{ℕ, ◌+◌, ◌≤◌, ◌<◌}
 use native.Mathlib.Numerals.{add-one}
 use native.Mathlib.Nat.{zero-add}
 use native.Mathlib.Omega.{arith}
@@ -100,8 +100,8 @@ module _ (bs : List ℕ) (h : Held) (o : OneLine bs) (r : Ready h) where
       let over : length g.line < g.held = rw (many, room, r.room) (omega arith) in
       rw (after, lt-ltb (length g.line) g.held over)
 
-  pub line_after : (taken_all (bs ++ (newline ∷ [])) h).reading.console ≡ line_after h.reading.console bs
-  line_after = by (ltb 4095 (length bs)) refl
+  pub line_after_lem : (taken_all (bs ++ (newline ∷ [])) h).reading.console ≡ line_after h.reading.console bs
+  line_after_lem = by (ltb 4095 (length bs)) refl
     where
       by : (t : Bool) → ltb 4095 (length bs) ≡ t → (taken_all (bs ++ (newline ∷ [])) h).reading.console ≡ line_after h.reading.console bs
       by true t = rw t (line_long (ltb-true 4095 (length bs) t))
@@ -118,7 +118,7 @@ lines_after [] h o r = refl
 lines_after (l ∷ ls) h o r =
     ap (λ (x : Held). x.reading.console) (taken_pieces (l ++ (newline ∷ [])) (input_of ls) h)
     ∙ lines_after ls (taken_all (l ++ (newline ∷ [])) h) o.1 (line_ready l h o.0 r)
-    ∙ ap (λ (c : Console). obeyed_all c ls) (line_after l h o.0 r)
+    ∙ ap (λ (c : Console). obeyed_all c ls) (line_after_lem l h o.0 r)
 
 -- the console after an input of whole lines is each line obeyed in turn
 pub console_after_lem : (ls : List (List ℕ)) → Lines ls → console_after (input_of ls) ≡ obeyed_all nothing_held ls

@@ -4,7 +4,7 @@ use mathlib.Core.Path.{◌≡◌, refl, sym, ◌∙◌, ap, subst}
 use mathlib.Core.Bool.{true, false, true≢false}
 use mathlib.Core.Logic.{◌↔◌}
 use mathlib.Core.List.{List, [], ◌∷◌, ◌++◌}
-use Prim.Native.Nat.{ℕ, suc, ◌+◌, ◌≤◌, ◌<◌, zero-le}
+use Prim.Native.Nat.{ℕ, ◌+◌, ◌≤◌, ◌<◌, zero-le}
 use Prim.Native.String.{String}
 use native.Mathlib.Omega.{arith}
 use borrow.Author.Tests.{lt-ltb, eqb-true, ne_eqb}
@@ -12,7 +12,6 @@ use lib.ListN.{length, get_or, take, replicate}
 use Rattle.laws.specs.Search.{Least, first, lowest}
 use Rattle.laws.proofs.SearchLaws.{lowest_least}
 use Rattle.laws.proofs.TestLaws.{le_exactly}
-use Rattle.device.specs.declared.Access.{Access}
 use Rattle.device.specs.declared.Kind.TheVariants as kind
 use Rattle.sequence.specs.Sequence.{triple}
 use Rattle.text.specs.Ascii.{ascii}

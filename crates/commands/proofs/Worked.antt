@@ -1,8 +1,7 @@
 -- The worked lines hold: computed. What a line does, to any console, is the routine's own definition at the numbers of the line. Assumes nothing.
 use mathlib.Core.Path.{◌≡◌, refl}
 use mathlib.Core.Bool.{true, false}
-use mathlib.Core.List.{List, [], ◌∷◌}
-use Prim.Native.Nat.{ℕ}
+use mathlib.Core.List.{[], ◌∷◌}
 use lib.Dec.{eqb}
 use lib.ListN.{set}
 use Rattle.laws.specs.Cases.{holds}

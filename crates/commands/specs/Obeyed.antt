@@ -1,17 +1,16 @@
 -- What a command does to the table and the switch of the console: the routine's own definition, at the numbers of the line.
 --   table_after t k    == the table after `empty`, `add`, `hand`
 --   mpu_after m k ws   == the MPU after `reg`, `hand-slot`, `hand-ctrl`, and `apply` of the triples ws
---   switch_after t s k == the switch record after `start`, `step`, `whole`, `hand-triple`, `hand_at`
+--   switch_after t s k == the switch record after `start`, `step`, `whole`, `hand-triple`, `hand-at`
 --   obeyed c k ws      == the console after a command; as it was after a line that tells, is silent or is bad
 --   nothing_held       == the console at the start: the empty table, and zeros
-use Rattle.std.specs.Prelude.{List, ℕ, ltb, set, replicate}
+use Rattle.std.specs.Prelude.{List, ltb, set, replicate}
 use Rattle.laws.specs.Pick.{pick}
 use Rattle.table.specs.declared.Table.{Table}
 use Rattle.table.specs.Numbers.{slots}
 use Rattle.table.specs.Table.{empty_table, with_entry}
 use Rattle.table.specs.Builder.{try_add}
 use Rattle.device.specs.declared.Mpu.{Mpu}
-use Rattle.device.specs.declared.Pair.{Pair}
 use Rattle.device.specs.declared.Write.{Write}
 use Rattle.device.specs.Registers.{slot_count}
 use Rattle.device.specs.RegisterWrite.{write_register}

@@ -2,7 +2,7 @@
 --   after c line == the console after a line, from c
 --   kind line    == 0 for a bad line, 1 for a silent one, 2 for one that tells, 3, 4 and 5 for one that changes the table, the MPU, the switch
 --   the cases    == a line and its kind: each verb, each bound on both of its sides, and each way to be bad
-use Rattle.std.specs.Prelude.{Bool, true, false, List, [], ◌∷◌, ℕ}
+use Rattle.std.specs.Prelude.{List, [], ◌∷◌, ℕ}
 use Prim.Native.String.{String}
 use Rattle.text.specs.Ascii.{ascii}
 use Rattle.commands.specs.declared.Command.{Command}
