@@ -12,6 +12,7 @@ use Rattle.table.specs.declared.numbers.Part.{Part}
 use Rattle.table.specs.declared.numbers.Slot.{Slot}
 use Rattle.table.specs.declared.numbers.Parted.{Parted}
 use Rattle.table.specs.declared.numbers.Slotted.{Slotted}
+use Rattle.table.specs.Numbers.{slots}
 use Rattle.table.specs.Table.{empty_table, entry_answer, cell_answer}
 use Rattle.table.specs.Lawful as spec
 use Rattle.table.specs.Builder.{try_add}
@@ -62,10 +63,10 @@ entry_of_once : (k : _) (a : _) (r s : Entry) (e f : _) → entry_of.Post k a r 
 entry_of_once k a r s e f p q = p ∙ sym q
 
 -- ---- and it is the definition's answer about the very arguments given, of eight slots: no proved caller need ask these
-covers_addr_asked : (t : Table) (p a : ℕ) (r : Covered) (e : _) → covers_addr.Post tt (t, (p, (a, tt))) r e → r ≡ cover_answer 8 t p a
+covers_addr_asked : (t : Table) (p a : ℕ) (r : Covered) (e : _) → covers_addr.Post tt (t, (p, (a, tt))) r e → r ≡ cover_answer slots t p a
 covers_addr_asked t p a r e q = q
 
-cell_asked : (t : Table) (i : ℕ) (r : Entry) (e : _) → cell.Post tt (t, (i, tt)) r e → r ≡ cell_answer 8 t i
+cell_asked : (t : Table) (i : ℕ) (r : Entry) (e : _) → cell.Post tt (t, (i, tt)) r e → r ≡ cell_answer slots t i
 cell_asked t i r e q = q
 
 table_new_asked : (r : Table) (e : _) → table_new.Post tt tt r e → r ≡ empty_table 8
@@ -79,3 +80,9 @@ lawful_asked t r e q = q
 
 entry_asked : (t : Table) (p : Part) (s : Slot) (r : Entry) (e : _) → entry.Post tt (t, (p, (s, tt))) r e → r ≡ entry_answer 8 t p.0 s.0
 entry_asked t p s r e q = q
+
+covers_addr_eight : (t : Table) (p a : ℕ) (r : Covered) (e : _) → covers_addr.Post tt (t, (p, (a, tt))) r e → r ≡ cover_answer 8 t p a
+covers_addr_eight t p a r e q = q
+
+cell_eight : (t : Table) (i : ℕ) (r : Entry) (e : _) → cell.Post tt (t, (i, tt)) r e → r ≡ cell_answer 8 t i
+cell_eight t i r e q = q
