@@ -36,7 +36,7 @@ struct Heard {
 
 // A proved loop ends: no input has more pieces.
 fn main(rt: HostRuntime) -> io::Result<()> {
-    let mut input = rt.reader();
+    let mut input = rt.stdin();
     let mut line = no_line();
     let mut r = commands::nothing_read();
     for _ in 0..u64::MAX {
