@@ -1,40 +1,37 @@
 // Answers to standard output: words, keys with their values, and the ten lines of a log.
 use device::Write;
-use libc::STDOUT_FILENO;
+use std::io;
 use text::Put;
 
-pub fn word(text: &[u8]) {
-    io::write_all(STDOUT_FILENO, text);
+pub fn word(rt: &impl Print, text: &str) -> io::Result<()> {
+    print!(rt; "{text}")
 }
 
-pub fn key(name: &[u8], n: u32) {
-    word(name);
-    io::print_decimal(STDOUT_FILENO, n as u64);
+pub fn key(rt: &impl Print, name: &str, n: u32) -> io::Result<()> {
+    print!(rt; "{name}{n}")
 }
 
-pub fn mark(name: &[u8], yes: bool) {
-    key(name, yes as u32);
+pub fn mark(rt: &impl Print, name: &str, yes: bool) -> io::Result<()> {
+    key(rt, name, yes as u32)
 }
 
-pub fn end() {
-    word(b"\n");
+pub fn end(rt: &impl Print) -> io::Result<()> {
+    word(rt, "\n")
 }
 
 // A refusal's number, or 0, alone on its line.
-pub fn number(no: u32) {
-    key(b"no=", no);
-    end();
+pub fn number(rt: &impl Print, no: u32) -> io::Result<()> {
+    println!(rt; "no={no}")
 }
 
-pub fn bad(line: u64) {
-    word(b"bad line=");
-    io::print_decimal(STDOUT_FILENO, line);
-    end();
+pub fn bad(rt: &impl Print, line: u64) -> io::Result<()> {
+    println!(rt; "bad line={line}")
 }
 
-pub fn log(writes: [Write; journal::LINES]) {
+pub fn log(rt: &impl Print, writes: [Write; journal::LINES]) -> io::Result<()> {
     let mut text = [0u8; journal::LONGEST_LOG];
     if let Put::At(n) = journal::put_log(&mut text, 0, writes) {
-        io::write_all(STDOUT_FILENO, &text[..n]);
+        rt.write_all(&text[..n])?;
     }
+    Ok(())
 }

@@ -2,55 +2,57 @@
 use crate::print;
 use commands::ToMpu;
 use device::{Access, Answer, Mpu, Pair, SLOTS, Write};
+use std::io;
 
-pub fn ask(m: Mpu, a: Access) {
+pub fn ask(rt: &impl Print, m: Mpu, a: Access) -> io::Result<()> {
     match device::decide(m, a) {
-        Answer::Private => print::word(b"answer=private\n"),
-        Answer::Unchecked => print::word(b"answer=unchecked\n"),
-        Answer::Undefined => print::word(b"answer=undefined\n"),
-        Answer::Permitted => print::word(b"answer=permitted\n"),
-        Answer::Denied => print::word(b"answer=denied\n"),
-        Answer::Refused => print::number(12),
+        Answer::Private => print::word(rt, "answer=private\n"),
+        Answer::Unchecked => print::word(rt, "answer=unchecked\n"),
+        Answer::Undefined => print::word(rt, "answer=undefined\n"),
+        Answer::Permitted => print::word(rt, "answer=permitted\n"),
+        Answer::Denied => print::word(rt, "answer=denied\n"),
+        Answer::Refused => print::number(rt, 12),
     }
 }
 
-pub fn show(m: Mpu) {
-    print::key(b"ctrl=", m.control);
-    print::end();
+pub fn show(rt: &impl Print, m: Mpu) -> io::Result<()> {
+    print::key(rt, "ctrl=", m.control)?;
+    print::end(rt)?;
     let slots = m.slots;
-    pairs(slots);
+    pairs(rt, slots)
 }
 
-fn pairs(slots: [Pair; SLOTS]) {
+fn pairs(rt: &impl Print, slots: [Pair; SLOTS]) -> io::Result<()> {
     let mut i = 0;
     while i < SLOTS {
         let p = slots[i];
-        print::key(b"slot=", i as u32);
-        print::key(b" rbar=", p.rbar);
-        print::key(b" rasr=", p.rasr);
-        print::end();
+        print::key(rt, "slot=", i as u32)?;
+        print::key(rt, " rbar=", p.rbar)?;
+        print::key(rt, " rasr=", p.rasr)?;
+        print::end(rt)?;
         i += 1;
     }
+    Ok(())
 }
 
 // The answer to a change of this MPU.
-pub fn change(k: ToMpu, m: Mpu, text: &[u8]) {
+pub fn change(rt: &impl Print, k: ToMpu, m: Mpu, text: &[u8]) -> io::Result<()> {
     match k {
-        ToMpu::Reg(w) => reg(m, w),
-        ToMpu::HandSlot(_, _) => print::number(0),
-        ToMpu::HandCtrl(_) => print::number(0),
-        ToMpu::Apply => apply(m, text),
+        ToMpu::Reg(w) => reg(rt, m, w),
+        ToMpu::HandSlot(_, _) => print::number(rt, 0),
+        ToMpu::HandCtrl(_) => print::number(rt, 0),
+        ToMpu::Apply => apply(rt, m, text),
     }
 }
 
 // One register write, in the record as it is lent.
-fn reg(m: Mpu, w: Write) {
-    print::number(lent::write_through(m, w).no);
+fn reg(rt: &impl Print, m: Mpu, w: Write) -> io::Result<()> {
+    print::number(rt, lent::write_through(m, w).no)
 }
 
-fn apply(m: Mpu, text: &[u8]) {
+fn apply(rt: &impl Print, m: Mpu, text: &[u8]) -> io::Result<()> {
     let a = switch::apply_program(m, commands::triples_of(text));
     let log = a.log;
-    print::number(a.no);
-    print::log(log);
+    print::number(rt, a.no)?;
+    print::log(rt, log)
 }

@@ -2,54 +2,55 @@
 use crate::print;
 use commands::ToSwitch;
 use device::Mpu;
+use std::io;
 use switch::{Did, Switch};
 use table::Table;
 
-pub fn writes(t: Table, part: u32) {
+pub fn writes(rt: &impl Print, t: Table, part: u32) -> io::Result<()> {
     let s = sequence::program_partition(t, part);
     let ws = s.writes;
-    print::number(s.no);
-    print::log(ws);
+    print::number(rt, s.no)?;
+    print::log(rt, ws)
 }
 
-pub fn show(s: Switch) {
+pub fn show(rt: &impl Print, s: Switch) -> io::Result<()> {
     let ws = s.writes;
     let log = s.log;
-    print::key(b"at=", s.position);
-    print::end();
-    print::log(ws);
-    print::log(log);
+    print::key(rt, "at=", s.position)?;
+    print::end(rt)?;
+    print::log(rt, ws)?;
+    print::log(rt, log)
 }
 
 // The answer to a change of this record.
-pub fn change(k: ToSwitch, t: Table, s: Switch) {
+pub fn change(rt: &impl Print, k: ToSwitch, t: Table, s: Switch) -> io::Result<()> {
     let m = s.mpu;
     match k {
-        ToSwitch::Start(part) => print::number(switch::start(m, t, part).no),
-        ToSwitch::Step => step(s),
-        ToSwitch::Whole(part) => whole(m, t, part),
-        ToSwitch::HandTriple(_, _) => print::number(0),
-        ToSwitch::HandAt(_) => print::number(0),
+        ToSwitch::Start(part) => print::number(rt, switch::start(m, t, part).no),
+        ToSwitch::Step => step(rt, s),
+        ToSwitch::Whole(part) => whole(rt, m, t, part),
+        ToSwitch::HandTriple(_, _) => print::number(rt, 0),
+        ToSwitch::HandAt(_) => print::number(rt, 0),
     }
 }
 
-fn whole(m: Mpu, t: Table, part: u32) {
+fn whole(rt: &impl Print, m: Mpu, t: Table, part: u32) -> io::Result<()> {
     let b = switch::switch_to_partition(m, t, part);
     let n = b.switch;
     let log = n.log;
-    print::number(b.no);
-    print::log(log);
+    print::number(rt, b.no)?;
+    print::log(rt, log)
 }
 
-fn step(s: Switch) {
+fn step(rt: &impl Print, s: Switch) -> io::Result<()> {
     let done = switch::step(s);
     let did = done.did;
     let n = done.switch;
     match did {
-        Did::Wrote => print::word(b"wrote"),
-        Did::Finished => print::word(b"finished"),
-        Did::Refused(no) => print::key(b"no=", no),
+        Did::Wrote => print::word(rt, "wrote")?,
+        Did::Finished => print::word(rt, "finished")?,
+        Did::Refused(no) => print::key(rt, "no=", no)?,
     }
-    print::key(b" at=", n.position);
-    print::end();
+    print::key(rt, " at=", n.position)?;
+    print::end(rt)
 }

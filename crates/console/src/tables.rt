@@ -1,33 +1,34 @@
 // The table: what it covers and holds is told; the builder and a hand change it.
 use crate::print;
 use commands::ToTable;
+use std::io;
 use table::{Request, Table};
 
-pub fn covers(t: Table, part: u32, address: u32) {
+pub fn covers(rt: &impl Print, t: Table, part: u32, address: u32) -> io::Result<()> {
     let c = t.covers_addr(part, address);
-    print::key(b"no=", c.no);
-    print::mark(b" yes=", c.yes);
-    print::end();
+    print::key(rt, "no=", c.no)?;
+    print::mark(rt, " yes=", c.yes)?;
+    print::end(rt)
 }
 
-pub fn entry(t: Table, at: u32) {
+pub fn entry(rt: &impl Print, t: Table, at: u32) -> io::Result<()> {
     let e = t.cell(at);
-    print::mark(b"enabled=", e.enabled);
-    print::key(b" base=", e.base);
-    print::key(b" size=", e.size);
-    print::mark(b" write=", e.writable);
-    print::end();
+    print::mark(rt, "enabled=", e.enabled)?;
+    print::key(rt, " base=", e.base)?;
+    print::key(rt, " size=", e.size)?;
+    print::mark(rt, " write=", e.writable)?;
+    print::end(rt)
 }
 
 // The answer to a change of this table.
-pub fn change(k: ToTable, t: Table) {
+pub fn change(rt: &impl Print, k: ToTable, t: Table) -> io::Result<()> {
     match k {
-        ToTable::Empty => print::number(0),
-        ToTable::Add(part, q) => add(t, part, q),
-        ToTable::Hand(_, _) => print::number(0),
+        ToTable::Empty => print::number(rt, 0),
+        ToTable::Add(part, q) => add(rt, t, part, q),
+        ToTable::Hand(_, _) => print::number(rt, 0),
     }
 }
 
-fn add(t: Table, part: u32, q: Request) {
-    print::number(t.try_add_region(part, q).no);
+fn add(rt: &impl Print, t: Table, part: u32, q: Request) -> io::Result<()> {
+    print::number(rt, t.try_add_region(part, q).no)
 }
