@@ -1,15 +1,14 @@
 -- What RASR holds. SIZE has five bits and AP three, so the sum 1 + 2 x SIZE + 16777216 x AP carries nowhere, and each field is read back by
 -- division. Assumes nothing.
-use mathlib.Core.Path.{◌≡◌, refl, sym, ◌∙◌, ap}
+use mathlib.Core.Path.{◌≡◌, refl}
 use mathlib.Core.Bool.{Bool, true, false}
-use Prim.Native.Nat.{ℕ, ◌+◌, ◌-◌, ◌*◌, ◌/◌, ◌%◌, ◌^◌, ◌≤◌, ◌<◌}
+use Prim.Native.Nat.{ℕ, ◌/◌, ◌%◌, ◌^◌, ◌≤◌, ◌<◌}
 use native.Mathlib.Omega.{arith}
 use borrow.Author.Tests.{ne_eqb}
 use Rattle.laws.specs.Refuse.{refuse}
 use Rattle.region.specs.Sound.{region_no}
 use Rattle.region.proofs.SoundLaws.{sound_facts}
 use Rattle.fields.specs.declared.Attributes.{Attributes}
-use Rattle.fields.specs.declared.Field.{Field}
 use Rattle.fields.specs.Fields.{size_field, ap_field, rasr, sizing, answer, size_answer, rasr_answer}
 use Rattle.fields.proofs.SizeLaws.{size_accepted, size_sized}
 

@@ -4,12 +4,12 @@ use mathlib.Core.Bool.{Bool, true, false, not}
 use mathlib.Core.Logic.Iff
 use mathlib.Core.Logic.{◌↔◌}
 use Prim.Native.Nat.{ℕ, ◌+◌, ◌-◌, ◌^◌, ◌≤◌, ◌<◌, zero-le}
-use native.Mathlib.Nat.{le_of_lt, lt_of_le_of_lt}
+use native.Mathlib.Nat.{le_of_lt}
 use native.Mathlib.Omega.{arith}
 use borrow.Author.Tests.{ltb-false, le-ltb, ne_eqb, not-false}
 use lib.Dec.{eqb, ltb, lit<}
 use lib.Pow.{pow_mono, pow-lt}
-use Rattle.laws.specs.Power.{log2, is_pow2, Pow2}
+use Rattle.laws.specs.Power.{log2, Pow2}
 use Rattle.laws.proofs.RefuseLaws.{accepted, given}
 use Rattle.laws.specs.Pick.{pick}
 use Rattle.laws.proofs.SearchLaws.{lowest_least}

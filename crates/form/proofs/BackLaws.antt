@@ -17,7 +17,7 @@ use Rattle.text.specs.Read.{number_at, Stands}
 use Rattle.text.proofs.StandsLaws.{stands, stands_apart, stands_first, stands_within}
 use Rattle.text.proofs.NumberLaws.{number_exactly}
 use Rattle.form.specs.declared.Formed.{Formed}
-use Rattle.form.specs.Form.{most, begun, takes_number, no_mark, value_at, stands_at, kept, moved_on, read_on, formed, form_at, form_of}
+use Rattle.form.specs.Form.{most, begun, takes_number, no_mark, value_at, kept, moved_on, read_on, formed, form_at, form_of}
 use Rattle.form.specs.Filled.{filled, apart, fits, kept_all}
 use Rattle.form.proofs.FilledLaws.{filled_number, filled_itself, kept_next, kept_read, kept_all_lem}
 

@@ -3,11 +3,10 @@
 -- Assumes nothing.
 use mathlib.Core.Path.{◌≡◌, refl, sym, ◌∙◌, ap}
 use mathlib.Core.Bool.{Bool, true, false, ◌&&◌}
-use Prim.Native.Nat.{ℕ, ◌≤◌, ◌<◌, zero-le}
+use Prim.Native.Nat.{ℕ, ◌<◌, zero-le}
 use native.Mathlib.Omega.{arith}
-use Rattle.laws.specs.Pick.{pick}
 use Rattle.laws.specs.Search.{some}
-use Rattle.laws.proofs.BoolLaws.{and_left, and_right, both, unless, holds_unless, fails_unless}
+use Rattle.laws.proofs.BoolLaws.{both, unless, fails_unless}
 use Rattle.laws.proofs.SearchLaws.{some_exactly, none_exactly}
 use Rattle.table.specs.declared.Table.{Table}
 use Rattle.table.specs.declared.Entry.{Entry}
@@ -17,16 +16,12 @@ use Rattle.table.specs.Lawful.{Lawful}
 use Rattle.table.proofs.CoversLaws.{byte_exactly, covers_unique}
 use Rattle.device.specs.declared.Mpu.{Mpu}
 use Rattle.device.specs.declared.Access.{Access}
-use Rattle.device.specs.declared.Answer.{Answer}
 use Rattle.device.specs.declared.Answer.TheVariants.{Private, Denied}
 use Rattle.device.specs.Registers.{slot_at, enables, allowed}
-use Rattle.device.specs.RegisterWrite.{pair_of}
 use Rattle.device.specs.Permission.{answered}
-use Rattle.device.specs.Decision.{bad, matches, bad_at, matches_at, private_bus, unmatched, decision}
+use Rattle.device.specs.Decision.{bad_at, private_bus, decision}
 use Rattle.device.proofs.DecidingLaws.{Decides}
-use Rattle.device.proofs.RuleLaws.{private_exactly}
 use Rattle.device.proofs.JudgedLaws.{background_else, decided_by_row, decided_unmatched}
-use Rattle.sequence.specs.Sequence.{slot_write}
 use Rattle.isolation.specs.Maps.{dark, allows, grants_byte, partition_map}
 use Rattle.isolation.proofs.MeetLaws.{Meets, meets}
 use Rattle.isolation.proofs.LoadLaws.{Off, Loaded}

@@ -1,8 +1,8 @@
 -- Demand 3. The switch, seen as an MPU and a place in its writes, is the machine of `order`: each step makes exactly the write at its position, and none
 -- is refused. Its first write turns the MPU off, no middle write turns it on, and the last leaves the partition's map. Assumes nothing.
 use mathlib.Core.Path.{◌≡◌, refl, sym, ◌∙◌, ap, ap₂, subst, fun_ext}
-use mathlib.Core.Bool.{Bool, true, false, not}
-use mathlib.Core.List.{List, [], ◌∷◌, ◌++◌}
+use mathlib.Core.Bool.{true, not}
+use mathlib.Core.List.{List}
 use Prim.Native.Nat.{ℕ, ◌+◌, ◌≤◌, ◌<◌}
 use native.Mathlib.Decide.{dec_lt}
 use native.Mathlib.Omega.{arith}
@@ -21,11 +21,11 @@ use Rattle.device.specs.declared.Write.{Write}
 use Rattle.device.specs.declared.Access.{Access}
 use Rattle.device.specs.declared.Answer.{Answer}
 use Rattle.device.specs.Registers.{ctrl, allowed}
-use Rattle.device.specs.RegisterWrite.{write_no, triple_no, write_register}
+use Rattle.device.specs.RegisterWrite.{triple_no, write_register}
 use Rattle.device.specs.Decision.{decision}
 use Rattle.device.proofs.RefusedWriteLaws.{held_allowed}
 use Rattle.device.proofs.StoredLaws.{allowed_kept}
-use Rattle.sequence.specs.Sequence.{triple, off, on, slot_write, writes, sequence}
+use Rattle.sequence.specs.Sequence.{triple, off, on, slot_write, writes}
 use Rattle.sequence.proofs.WritesLaws.{middle, writes_at, writes_length, writes_switch, sequence_0}
 use Rattle.sequence.proofs.SoundWrites.{writes_sound}
 use Rattle.switch.specs.declared.Switch.{Switch}

@@ -9,7 +9,6 @@ use native.Mathlib.Nat.{eq-or-lt_of_le, zero-add}
 use native.Mathlib.Omega.{arith}
 use lib.ListN.{length, get_or}
 use Rattle.laws.specs.Listed.{listed}
-use Rattle.region.specs.Sound.{region_no}
 use Rattle.table.specs.declared.Table.{Table}
 use Rattle.table.specs.declared.Entry.{Entry}
 use Rattle.table.specs.Table.{slot_entry}

@@ -5,17 +5,14 @@ use mathlib.Core.Bool.{Bool, true, false, ◌&&◌}
 use mathlib.Core.Logic.{◌↔◌}
 use Prim.Native.Nat.{ℕ, ◌<◌, zero-le}
 use native.Mathlib.Omega.{arith}
-use Rattle.laws.specs.Pick.{pick}
 use Rattle.laws.proofs.BoolLaws.{and_left, and_right, both}
 use Rattle.laws.proofs.SearchLaws.{some_exactly}
 use Rattle.table.specs.declared.Table.{Table}
-use Rattle.table.specs.declared.Entry.{Entry}
 use Rattle.table.specs.Table.{slot_entry}
 use Rattle.table.specs.Entries.{covers_byte}
 use Rattle.table.specs.Covers.{Has}
 use Rattle.table.proofs.CoversLaws.{byte_exactly}
 use Rattle.device.specs.declared.Access.{Access}
-use Rattle.device.specs.declared.Answer.{Answer}
 use Rattle.device.specs.declared.Kind.{Kind}
 use Rattle.device.specs.declared.Kind.TheVariants.{Read, Write}
 use Rattle.device.specs.declared.Answer.TheVariants.{Private, Permitted, Denied}

@@ -3,12 +3,10 @@
 -- isn't enabled is written off. Assumes nothing.
 use mathlib.Core.Path.{◌≡◌, refl, sym, ◌∙◌, ap, subst}
 use mathlib.Core.Bool.{Bool, true, false, true≢false}
-use mathlib.Core.Logic.{◌↔◌}
-use Prim.Native.Nat.{ℕ, ◌+◌, ◌*◌, ◌/◌, ◌%◌, ◌^◌, ◌≤◌, ◌<◌}
+use Prim.Native.Nat.{ℕ, ◌+◌, ◌%◌, ◌^◌}
 use native.Mathlib.Omega.{arith}
-use borrow.Author.Tests.{eq-eqb, ne_eqb, le-ltb, not-true}
-use lib.Dec.{eqb, ltb}
-use Rattle.laws.proofs.BoolLaws.{same_test, fails_unless}
+use borrow.Author.Tests.{eq-eqb, le-ltb}
+use Rattle.laws.proofs.BoolLaws.{same_test}
 use Rattle.region.specs.Sound.{region_no}
 use Rattle.region.proofs.SoundLaws.{sound_facts}
 use Rattle.fields.specs.Fields
@@ -17,7 +15,6 @@ use Rattle.fields.proofs.SizeLaws.{Sized, size_sized}
 use Rattle.fields.proofs.RasrLaws.{Holds, size_of_sound, rasr_holds}
 use Rattle.table.specs.declared.Entry.{Entry}
 use Rattle.table.specs.Entries.{covers_byte}
-use Rattle.table.specs.Covers.{Has}
 use Rattle.table.proofs.CoversLaws.{byte_exactly}
 use Rattle.device.specs.declared.Pair.{Pair}
 use Rattle.device.specs.declared.Kind.{Kind}

@@ -7,7 +7,7 @@
 --   live c      == the MPU that holds partition 2, under control c
 --   asks        == bytes of partition 2, of slots 0 and 2, and of partition 1, one of each of its entries; the first byte of the private bus
 --   behind      == a byte of neither, written by privileged code
-use Rattle.std.specs.Prelude.{Bool, true, false, List, [], ◌∷◌, ◌++◌, ℕ, zero, suc, replicate}
+use Rattle.std.specs.Prelude.{true, false, List, [], ◌∷◌, ◌++◌, ℕ, zero, suc, replicate}
 use Rattle.table.specs.declared.Table.{Table}
 use Rattle.table.specs.declared.Request.{Request}
 use Rattle.table.specs.Numbers.{slots}

@@ -1,7 +1,7 @@
 -- The first three writes of document 01's log, and the last of it, as its text: computed. Assumes nothing.
 use mathlib.Core.Path.{◌≡◌, refl}
 use mathlib.Core.Bool.{true}
-use mathlib.Core.List.{List, [], ◌∷◌}
+use mathlib.Core.List.{[], ◌∷◌}
 use Prim.Native.Nat.{ℕ}
 use Rattle.device.specs.declared.Write.{Write}
 use Rattle.text.specs.Ascii.{ascii}

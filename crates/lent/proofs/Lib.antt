@@ -1,12 +1,6 @@
-pub mod DataLaws
 pub mod Determined
-pub mod ElementLaws
 pub mod FoundLaws
 pub mod GivenLaws
-pub mod LoanLaws
-pub mod LocalLaws
-pub mod SliceLaws
 pub mod StoreLaws
-pub mod WalkLaws
 pub mod WordsLaws
 pub mod Worked

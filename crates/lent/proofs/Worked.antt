@@ -1,12 +1,11 @@
 -- Records worked by hand, base before size: computed. Assumes nothing.
 use mathlib.Core.Path.{◌≡◌, refl}
-use mathlib.Core.List.{List, [], ◌∷◌, map}
+use mathlib.Core.List.{[], ◌∷◌, map}
 use Prim.Native.Nat.{ℕ}
 use Rattle.laws.specs.Search.{first, lowest}
 use Rattle.laws.specs.Power.{log2, is_pow2}
 use Rattle.region.specs.Sound.{soundness, region_no}
 use Rattle.region.specs.Overlap.{overlaps}
-use Rattle.region.specs.declared.Judged.{Judged}
 use Rattle.region.specs.declared.Judged.TheVariants.{Valid, Short, Unsound, Pair}
 use Rattle.region.specs.List.{pair_of, judged}
 use Rattle.lent.specs.declared.MpuRegion.{MpuRegion}

@@ -7,7 +7,7 @@ use native.Mathlib.Nat.{le_of_lt}
 use borrow.Author.Tests.{ltb-true, ltb-false, lt-ltb, le-ltb, eqb-true, eqb-false, eq-eqb, ne_eqb, not-true, not-false}
 use lib.Dec.{ltb}
 use Rattle.laws.specs.Pick.{pick}
-use Rattle.laws.specs.Search.{lowest, some, paired, pair_low, pair_high, Least}
+use Rattle.laws.specs.Search.{some, paired, pair_low, pair_high, Least}
 use Rattle.laws.proofs.SearchLaws.{lowest_least, least_one, none_exactly}
 use Rattle.laws.proofs.PairLaws.{pair_first, no_pair, first_pair_one}
 use Rattle.laws.proofs.BoolLaws.{pick-ap, holds_unless}

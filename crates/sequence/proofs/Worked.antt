@@ -2,7 +2,6 @@
 -- Assumes nothing.
 use mathlib.Core.Path.{◌≡◌, refl}
 use mathlib.Core.Bool.{true}
-use mathlib.Core.List.{◌∷◌, []}
 use lib.Dec.{eqb}
 use lib.ListN.{get_or, replicate}
 use Rattle.laws.specs.Cases.{holds}

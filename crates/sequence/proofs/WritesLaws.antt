@@ -4,13 +4,13 @@ use mathlib.Core.Path.{◌≡◌, refl, sym, ◌∙◌, ap, ap₂}
 use mathlib.Core.Bool.{Bool, true, false, not}
 use mathlib.Core.Logic.{◌↔◌}
 use mathlib.Core.List.{List, [], ◌∷◌, ◌++◌}
-use Prim.Native.Nat.{ℕ, suc, ◌+◌, ◌-◌, ◌*◌, ◌^◌, ◌≤◌, ◌<◌}
+use Prim.Native.Nat.{ℕ, ◌+◌, ◌-◌, ◌*◌, ◌^◌, ◌<◌}
 use native.Mathlib.Nat.{zero-add}
 use native.Mathlib.Numerals.{add-two}
 use native.Mathlib.Omega.{arith}
 use borrow.Author.Tests.{ne_eqb, le-leb, lt-leb, not-true, not-false}
 use lib.Dec.{eqb, lit<}
-use lib.ListN.{length, get_or, replicate, length-replicate, get_or-replicate}
+use lib.ListN.{length, get_or, length-replicate, get_or-replicate}
 use Rattle.laws.specs.Pick.{pick}
 use Rattle.laws.specs.Refuse.{◌⇒◌}
 use Rattle.laws.specs.Listed.{listed}

@@ -5,7 +5,7 @@
 --   writes n t p      == all of them
 --   sequence_no n t p == what refuses: 1, 9
 --   sequence n t p    == the number, beside the writes, or zeros where it refuses
-use Rattle.std.specs.Prelude.{not, List, [], ◌∷◌, ℕ, ◌+◌, ◌-◌, ltb, leb, eqb, replicate}
+use Rattle.std.specs.Prelude.{not, List, [], ◌∷◌, ℕ, ◌+◌, ◌-◌, leb, eqb, replicate}
 use Rattle.laws.specs.Pick.{pick}
 use Rattle.laws.specs.Refuse.{◌⇒◌, refuse}
 use Rattle.laws.specs.Listed.{listed}

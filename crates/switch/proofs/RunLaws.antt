@@ -1,15 +1,14 @@
 -- Where a switch stands after k steps, and after all of them: k writes made, in order, k places of the log filled with them, the others zeros, position k.
 -- Each step takes one such state to the next, since none of the writes is refused. Assumes nothing.
-use mathlib.Core.Path.{◌≡◌, refl, sym, ◌∙◌, ap, subst}
-use mathlib.Core.Bool.{Bool, true, false, not}
+use mathlib.Core.Path.{◌≡◌, refl, sym, ◌∙◌, ap}
+use mathlib.Core.Bool.{true}
 use mathlib.Core.List.{List, [], ◌∷◌, ◌++◌, append_assoc, append-nil}
 use Prim.Native.Nat.{ℕ, zero, suc, ◌+◌, ◌≤◌, ◌<◌}
 use native.Mathlib.Nat.{add-zero, add-suc, suc-add, zero-add}
 use native.Mathlib.Numerals.{add-one}
 use native.Mathlib.Omega.{arith}
 use borrow.Author.Tests.{ltb-true, not-false}
-use lib.Dec.{ltb}
-use lib.ListN.{length, get_or, set, take, drop, replicate, length-replicate, drop_of_length-le}
+use lib.ListN.{length, get_or, set, take, drop, length-replicate, drop_of_length-le}
 use lib.Seq.{take-suc, drop-cons, set_at, length-take-le, take_all}
 use Rattle.device.specs.declared.Mpu.{Mpu}
 use Rattle.device.specs.declared.Write.{Write}
@@ -27,7 +26,7 @@ use Rattle.switch.specs.declared.Switch.{Switch}
 use Rattle.switch.specs.declared.Started.{Started}
 use Rattle.switch.specs.declared.Stepped.{Stepped}
 use Rattle.switch.specs.declared.Did.TheVariants.{Wrote}
-use Rattle.switch.specs.Switch.{fresh, advanced, started, stepped, steps, whole}
+use Rattle.switch.specs.Switch.{fresh, advanced, stepped, steps, whole}
 use Rattle.switch.specs.Applied.{write_all}
 use Rattle.switch.proofs.StartNo.{zeros, start_0, start_accepted, whole_accepted}
 use Rattle.switch.proofs.StepLaws.{step_wrote}

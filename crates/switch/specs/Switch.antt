@@ -10,7 +10,7 @@
 --   whole n m t p    == the number, beside the switch after all its steps; as started where it refuses
 --   step_no          == the number of the paper for a step's answer
 --   step_due n s     == the number that is due: none once finished, else the register write's
-use Rattle.std.specs.Prelude.{Bool, not, List, [], ◌∷◌, ℕ, zero, suc, ◌+◌, leb, eqb, get_or, set, replicate}
+use Rattle.std.specs.Prelude.{not, List, [], ◌∷◌, ℕ, zero, suc, ◌+◌, leb, eqb, get_or, set, replicate}
 use Rattle.laws.specs.Pick.{pick}
 use Rattle.laws.specs.Refuse.{◌⇒◌, refuse}
 use Rattle.device.specs.declared.Mpu.{Mpu}

@@ -1,34 +1,25 @@
 -- What the builder does. It accepts whatever is sound and fits: no refusal is left. An accepted request stands in the lowest free slot, as asked and
 -- enabled, and nothing else changes. The table stays lawful: the new entry is sound and meets no other of its partition. Assumes nothing.
-use mathlib.Core.Path.{◌≡◌, refl, sym, ◌∙◌, ap, subst}
-use mathlib.Core.Bool.{Bool, true, false, not, true≢false}
+use mathlib.Core.Path.{◌≡◌, ap}
+use mathlib.Core.Bool.{true, false, not}
 use mathlib.Core.Logic.{◌↔◌}
-use Prim.Native.Nat.{ℕ, ◌+◌, ◌*◌, ◌≤◌, ◌<◌, zero-le}
-use native.Mathlib.Decide.{ℕ_discrete}
-use native.Mathlib.Omega.{arith}
-use borrow.Author.Tests.{ltb-true, lt-ltb, not-true, not-false, eqb-true, ne_eqb}
-use lib.Dec.{eqb}
+use Prim.Native.Nat.{ℕ, ◌+◌, ◌*◌, ◌<◌, zero-le}
+use borrow.Author.Tests.{ltb-true, lt-ltb, not-true, not-false, ne_eqb}
 use lib.ListN.{get_or}
 use Rattle.laws.specs.Search.{Least}
 use Rattle.laws.proofs.BoolLaws.{unless}
 use Rattle.laws.proofs.SearchLaws.{none_exactly, some_exactly, lowest_least}
-use Rattle.region.specs.Sound.{region_no}
 use Rattle.region.specs.Overlap.{overlaps}
-use Rattle.region.proofs.OverlapLaws.{overlaps_symmetric}
 use Rattle.table.specs.declared.Table.{Table}
 use Rattle.table.specs.declared.Entry.{Entry}
 use Rattle.table.specs.declared.Request.{Request}
-use Rattle.table.specs.Numbers.{parts, flat_index}
-use Rattle.table.specs.Table.{entry_at, with_entry, slot_entry}
+use Rattle.table.specs.Numbers.{flat_index}
+use Rattle.table.specs.Table.{with_entry, slot_entry}
 use Rattle.table.specs.Whole.{Whole}
 use Rattle.table.specs.Entries.{range_of, is_free, meets}
-use Rattle.table.specs.Lawful.{lawful, Lawful}
-use Rattle.table.specs.Covers.{beyond, covers}
 use Rattle.table.specs.Builder.{wanted, granted, overlaps_any, first_free, full, builder_no, try_add, Fits, Grants}
-use Rattle.table.proofs.EntryLaws.{with_other, with_whole, slot_same, slot_other}
+use Rattle.table.proofs.EntryLaws.{with_other, slot_same}
 use Rattle.table.proofs.LawfulLaws.{lawful_exactly}
-use Rattle.table.proofs.CoversLaws.{covers_exactly}
-use Rattle.table.proofs.BuilderNo.{add_refused, add_accepted}
 use Rattle.table.proofs.RefusalLaws.{accepted_exactly}
 
 module _ (n : ℕ) (t : Table) (p : ℕ) (q : Request) where

@@ -1,6 +1,6 @@
 -- Every built table is whole and lawful, and its enabled slots come first: the empty one is, and adding keeps it so. Assumes nothing.
 use mathlib.Core.Path.{◌≡◌, refl, sym, ◌∙◌, ap}
-use mathlib.Core.Bool.{Bool, true, false, true≢false}
+use mathlib.Core.Bool.{true, false, true≢false}
 use Prim.Native.Nat.{ℕ, zero, suc, ◌*◌, ◌<◌}
 use native.Mathlib.Decide.{ℕ_discrete}
 use native.Mathlib.Omega.{arith}
@@ -12,11 +12,11 @@ use Rattle.table.specs.declared.Request.{Request}
 use Rattle.table.specs.Numbers.{parts, flat_index}
 use Rattle.table.specs.Table.{empty_table, slot_entry}
 use Rattle.table.specs.Whole.{Whole}
-use Rattle.table.specs.Lawful.{lawful, Lawful}
+use Rattle.table.specs.Lawful.{lawful}
 use Rattle.table.specs.Covers.{covers}
 use Rattle.table.specs.Builder.{try_add, Grants}
 use Rattle.table.specs.Built.{Built, empty, add, Packed}
-use Rattle.table.proofs.EntryLaws.{empty_whole, flat_one}
+use Rattle.table.proofs.EntryLaws.{empty_whole}
 use Rattle.table.proofs.LawfulLaws.{lawful_exactly}
 use Rattle.table.proofs.CoversLaws.{covers_exactly}
 use Rattle.table.proofs.AddLaws.{refused_same, grants}

@@ -10,9 +10,8 @@ use Rattle.region.proofs.OverlapLaws as region
 use Rattle.table.specs.declared.Table.{Table}
 use Rattle.table.specs.declared.Request.{Request}
 use Rattle.table.specs.Table.{slot_entry}
-use Rattle.table.specs.Entries.{range_of}
 use Rattle.table.specs.Lawful.{lawful}
-use Rattle.table.specs.Builder.{wanted, overlaps_any}
+use Rattle.table.specs.Builder.{overlaps_any}
 use Rattle.table.proofs.LawfulLaws.{lawful_exactly}
 use Rattle.table.proofs.AddLaws.{apart_exactly}
 

@@ -1,7 +1,7 @@
 -- What covering means: some enabled slot of the partition has the byte; in a lawful table only one has, since two that had it would overlap.
 -- Assumes nothing.
 use mathlib.Core.Path.{◌≡◌, refl, sym, ◌∙◌, ap}
-use mathlib.Core.Bool.{Bool, true, false, not, ◌&&◌, true≢false}
+use mathlib.Core.Bool.{true, false, not, ◌&&◌, true≢false}
 use mathlib.Core.Logic.{◌↔◌}
 use mathlib.Core.List.{[], ◌∷◌}
 use Prim.Native.Nat.{ℕ, ◌+◌, ◌≤◌, ◌<◌, zero-le}

@@ -13,10 +13,9 @@ use Rattle.region.proofs.SoundLaws.{sound_facts}
 use Rattle.region.specs.Overlap.{overlaps}
 use Rattle.region.proofs.OverlapLaws.{overlaps_symmetric}
 use Rattle.table.specs.declared.Table.{Table}
-use Rattle.table.specs.declared.Entry.{Entry}
 use Rattle.table.specs.declared.Request.{Request}
 use Rattle.table.specs.Numbers.{parts, flat_index}
-use Rattle.table.specs.Table.{entry_at, with_entry, slot_entry}
+use Rattle.table.specs.Table.{with_entry, slot_entry}
 use Rattle.table.specs.Whole.{Whole}
 use Rattle.table.specs.Entries.{range_of}
 use Rattle.table.specs.Lawful.{lawful, Lawful}

@@ -1,19 +1,17 @@
 -- What lawful means, both ways: every enabled entry is sound, and no two enabled entries of one partition overlap. Each test is a search, and its
 -- meaning law turns it into the fact. Assumes nothing.
-use mathlib.Core.Path.{◌≡◌, refl, sym, ◌∙◌, ap}
-use mathlib.Core.Bool.{Bool, true, false, not, ◌&&◌}
+use mathlib.Core.Path.{◌≡◌, ap}
+use mathlib.Core.Bool.{true, false, not}
 use mathlib.Core.Logic.{◌↔◌}
 use Prim.Native.Nat.{ℕ, ◌+◌, ◌≤◌, ◌<◌, zero-le}
 use native.Mathlib.Omega.{arith}
 use borrow.Author.Tests.{eqb-true, eq-eqb, not-true, not-false}
-use lib.Dec.{eqb}
 use Rattle.laws.specs.Search.{some}
 use Rattle.laws.proofs.BoolLaws.{and_left, and_right, both, unless}
 use Rattle.laws.proofs.SearchLaws.{none_exactly, every_exactly}
 use Rattle.region.specs.Sound.{region_no}
 use Rattle.region.specs.Overlap.{overlaps}
 use Rattle.table.specs.declared.Table.{Table}
-use Rattle.table.specs.declared.Entry.{Entry}
 use Rattle.table.specs.Numbers.{parts}
 use Rattle.table.specs.Table.{slot_entry}
 use Rattle.table.specs.Entries.{range_of, is_unsound, meets}

@@ -1,11 +1,11 @@
 -- Each number of the builder, exactly when the paper states it. The list of refusals tells its conditions; those of one region stand in it whole,
 -- and are told by that region's own number. Assumes nothing.
-use mathlib.Core.Path.{◌≡◌, refl, sym, ◌∙◌, ap}
-use mathlib.Core.Bool.{Bool, true, false, not, true≢false}
+use mathlib.Core.Path.{◌≡◌, refl, sym, ◌∙◌}
+use mathlib.Core.Bool.{Bool, true, false, not}
 use mathlib.Core.Logic.{◌↔◌}
-use Prim.Native.Nat.{ℕ, ◌≤◌, ◌<◌}
+use Prim.Native.Nat.{ℕ, ◌≤◌}
 use native.Mathlib.Omega.{arith}
-use borrow.Author.Tests.{not-true, not-false, eqb-true, eqb-false}
+use borrow.Author.Tests.{not-true, not-false}
 use lib.Dec.{eqb, lit<}
 use Rattle.laws.specs.Pick.{pick}
 use Rattle.laws.proofs.RefuseLaws.{accepted, given}

@@ -2,8 +2,7 @@
 -- Assumes nothing.
 use mathlib.Core.Path.{◌≡◌, refl}
 use mathlib.Core.Bool.{true, false}
-use mathlib.Core.List.{List, [], ◌∷◌, map}
-use Prim.Native.Nat.{ℕ}
+use mathlib.Core.List.{[], ◌∷◌, map}
 use lib.ListN.{get_or}
 use Rattle.laws.specs.Search.{first, lowest}
 use Rattle.laws.specs.Power.{log2, is_pow2}

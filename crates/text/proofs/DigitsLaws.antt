@@ -47,18 +47,18 @@ abbrev pub all_digits : List ℕ → Bool
 all_digits [] = true
 all_digits (b ∷ bs) = is_digit b && all_digits bs
 
-pub is_digit : (d : ℕ) → d < 10 → is_digit (zero_byte + d) ≡ true
-is_digit d h = rw (le-leb zero_byte (zero_byte + d) (omega arith), le-leb (zero_byte + d) (zero_byte + 9) (omega arith))
+pub is_digit_lem : (d : ℕ) → d < 10 → is_digit (zero_byte + d) ≡ true
+is_digit_lem d h = rw (le-leb zero_byte (zero_byte + d) (omega arith), le-leb (zero_byte + d) (zero_byte + 9) (omega arith))
 
 pub all_append : (xs ys : List ℕ) → all_digits xs ≡ true → all_digits ys ≡ true → all_digits (xs ++ ys) ≡ true
 all_append [] ys p q = q
 all_append (x ∷ xs) ys p q =
     rw (and_left (is_digit x) (all_digits xs) p) (all_append xs ys (and_right (is_digit x) (all_digits xs) p) q)
 
-pub all_digits : (n : ℕ) → n ≤ largest → all_digits (digits n) ≡ true
-all_digits =
-    by_digits (λ (n : ℕ). all_digits (digits n) ≡ true) (λ n h. rw (digits_one n h, is_digit n h))
-    (λ n s h rest. rw (digits_more n s h) (all_append (digits (n / 10)) _ rest (rw (is_digit (n % 10) (omega arith)))))
+pub all_digits_lem : (n : ℕ) → n ≤ largest → all_digits (digits n) ≡ true
+all_digits_lem =
+    by_digits (λ (n : ℕ). all_digits (digits n) ≡ true) (λ n h. rw (digits_one n h, is_digit_lem n h))
+    (λ n s h rest. rw (digits_more n s h) (all_append (digits (n / 10)) _ rest (rw (is_digit_lem (n % 10) (omega arith)))))
 
 -- ---- no leading zero
 pub some_digit : (n : ℕ) → n ≤ largest → 0 < length (digits n)

@@ -15,7 +15,7 @@ use Rattle.text.specs.declared.Number.TheVariants.{Value, Nothing}
 use Rattle.text.specs.Digits.{largest, digits, is_digit, run, value}
 use Rattle.text.specs.Put.{over, after}
 use Rattle.text.specs.Read.{any, leading_zero, number_of, number_at, Stands}
-use Rattle.text.proofs.DigitsLaws.{all_digits, any_digits, no_leading_zero}
+use Rattle.text.proofs.DigitsLaws.{all_digits_lem, any_digits, no_leading_zero}
 use Rattle.text.proofs.RunLaws.{run_all, run_none, all_run, run_split}
 use Rattle.text.proofs.ValueLaws.{value_digits, digits_value}
 use Rattle.text.proofs.PutLaws.{put_fits}
@@ -37,7 +37,7 @@ number_reads bytes at v p w =
     ap (λ (ds : List ℕ). number_of ds at) whole ∙ of_digits v at w.small ∙ ap (λ (q : ℕ). Value v q) (sym w.here.next)
   where
     whole : run (drop at bytes) ≡ digits v
-    whole = rw (w.here.text, run_all (digits v) (drop p bytes) (all_digits v w.small), run_none bytes p w.ends) (append-nil (digits v))
+    whole = rw (w.here.text, run_all (digits v) (drop p bytes) (all_digits_lem v w.small), run_none bytes p w.ends) (append-nil (digits v))
 
 -- ---- only what is so written is read
 module _ (ds : List ℕ) (at v p : ℕ) where

@@ -4,7 +4,7 @@
 --   answered r        == the number and the place after it, nothing where there is none
 --   placed r, found r == the place, nothing where there is none
 --   same xs ys        == the two texts are alike
-use Rattle.std.specs.Prelude.{Bool, true, ◌&&◌, List, [], ◌∷◌, ℕ, eqb, length}
+use Rattle.std.specs.Prelude.{Bool, ◌&&◌, List, [], ◌∷◌, ℕ, eqb, length}
 use Rattle.text.specs.declared.Put.{Put}
 use Rattle.text.specs.declared.Put.TheVariants as puts
 use Rattle.text.specs.declared.Found.{Found}
