@@ -1,9 +1,8 @@
 -- What a caller reads off the words: numbers and cases by literal, and each word by its place. By the definitions, and by the device's law on the held control.
 -- Assumes nothing.
-use mathlib.Core.Path.{◌≡◌, refl, sym, ◌∙◌, ap, ap₂}
-use mathlib.Core.Bool.{Bool, true, false, not, false≢true}
+use mathlib.Core.Path.{◌≡◌, refl, sym, ◌∙◌, ap}
+use mathlib.Core.Bool.{Bool, true, false, not}
 use mathlib.Core.List.{List, [], ◌∷◌, map}
-use mathlib.Core.Logic.{◌↔◌}
 use Prim.Native.Nat.{ℕ, zero, suc, ◌+◌, ◌*◌, ◌/◌, ◌%◌, ◌≤◌, ◌<◌}
 use native.Mathlib.Nat.{mul_assoc, zero-add}
 use native.Mathlib.Omega.{arith}
@@ -14,7 +13,6 @@ use lib.Seq.{get_or-take, get_or-drop, get_or-append-add}
 use Rattle.laws.specs.Pick.{pick}
 use Rattle.laws.specs.Listed.{listed}
 use Rattle.laws.proofs.ListedLaws.{length-listed, get_or-listed}
-use Rattle.region.specs.declared.Range.{Range}
 use Rattle.region.specs.declared.Judged.{Judged}
 use Rattle.region.specs.declared.Judged.TheVariants.{Valid, Short, Unsound, Pair}
 use Rattle.region.specs.List.{record_at}
@@ -29,13 +27,12 @@ use Rattle.device.proofs.ControlLaws.{Allowed, allowed_exactly}
 use Rattle.device.proofs.RuleLaws.{refused_exactly}
 use Rattle.device.proofs.NumberLaws.{in_numbers}
 use Rattle.table.specs.declared.Table.{Table}
-use Rattle.table.specs.declared.Request.{Request}
 use Rattle.table.specs.Numbers.{slots}
 use Rattle.table.specs.Table.{empty_table}
 use Rattle.table.specs.Builder.{try_add}
 use Rattle.switch.specs.declared.Switch.{Switch}
 use Rattle.switch.specs.Switch.{whole}
-use Rattle.exports.specs.Words.{word_at, mpu_of, access_at, held_no, case_no, part_at, request_at, list_at, found_word, found_words, switch_word}
+use Rattle.exports.specs.Words.{word_at, mpu_of, access_at, held_no, case_no, request_at, list_at, found_word, found_words, switch_word}
 use Rattle.exports.specs.Many.{case_at, table_after, table_by, added_at, switch_after, switched_at, found_at, found_word_at}
 use Rattle.exports.proofs.ListAtLaws.{third}
 

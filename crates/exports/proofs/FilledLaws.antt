@@ -1,6 +1,6 @@
 -- A lent slice that a loop fills: after i turns it has the first i values, and then what was there. Assumes nothing.
 --   Filled f d s i == s is d after i turns that store f 0, f 1, ..
-use mathlib.Core.Path.{◌≡◌, refl, sym, subst, ◌∙◌, ap, ap₂}
+use mathlib.Core.Path.{◌≡◌, refl, subst, ◌∙◌, ap, ap₂}
 use mathlib.Core.List.{List, ◌++◌}
 use Prim.Native.Nat.{ℕ, ◌+◌, ◌*◌, ◌/◌, ◌≤◌, ◌<◌, zero-le}
 use native.Mathlib.Omega.{arith}

@@ -1,24 +1,21 @@
 -- Worked by hand, words in and words out: of an MPU and accesses, of requests, of switches and of lists, each computed. Assumes nothing.
 use mathlib.Core.Path.{◌≡◌, refl}
-use mathlib.Core.Bool.{true, false}
 use mathlib.Core.List.{List, [], ◌∷◌, ◌++◌, map}
 use Prim.Native.Nat.{ℕ, suc}
 use lib.ListN.{replicate}
 use Rattle.laws.specs.Listed.{listed}
-use Rattle.laws.specs.Search.{first, lowest, highest, paired, pair_low, pair_high}
+use Rattle.laws.specs.Search.{first, lowest, highest}
 use Rattle.laws.specs.Power.{log2, is_pow2}
 use Rattle.region.specs.Sound.{soundness, region_no}
 use Rattle.region.specs.Overlap.{overlaps}
 use Rattle.region.specs.List.{pair_of, judged as list_judged}
 use Rattle.device.specs.declared.Pair.{Pair}
-use Rattle.device.specs.declared.Write.{Write}
 use Rattle.device.specs.declared.Mpu.{Mpu}
 use Rattle.device.specs.Registers.{allowed}
 use Rattle.device.specs.RegisterWrite.{triple_refusals, triple_no, write_no, stored, write_register}
 use Rattle.device.specs.Permission.{row_answer}
 use Rattle.device.specs.Decision.{bad, matches, judged, decision}
-use Rattle.table.specs.Numbers.{slots}
-use Rattle.table.specs.Table.{slot_entry, empty_table}
+use Rattle.table.specs.Table.{slot_entry}
 use Rattle.table.specs.Lawful.{clash_at, lawful_part, lawful}
 use Rattle.table.specs.Builder.{overlaps_any, first_free, full, refusals, builder_no, try_add}
 use Rattle.sequence.specs.Sequence.{triple, slot_write, write_at, writes}

@@ -10,7 +10,7 @@
 --   found_word j k  == word k of a list's answer, of 3 words: the number of the paper, then the places that it names; 0 where there is none
 --   found_words f d == the words d with an answer, by f, in each three that are whole
 --   switch_word s k == word k of a switch, of 47 words: its MPU's 17, then for each write of its log 3 (write_word w k: register, RBAR, RASR); 0 beyond
-use Rattle.std.specs.Prelude.{Bool, not, List, ◌∷◌, ◌++◌, ℕ, ◌+◌, ◌*◌, ◌-◌, ◌/◌, ◌%◌, ltb, eqb, length, get_or, take, drop}
+use Rattle.std.specs.Prelude.{not, List, ◌∷◌, ◌++◌, ℕ, ◌+◌, ◌*◌, ◌-◌, ◌/◌, ◌%◌, ltb, eqb, length, get_or, take, drop}
 use Rattle.laws.specs.Pick.{pick}
 use Rattle.laws.specs.Listed.{listed}
 use Rattle.region.specs.declared.Judged.{Judged}

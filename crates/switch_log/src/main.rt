@@ -2,12 +2,12 @@
 #![tactic(auto)]
 
 use device::{Mpu, Pair};
-use libc::STDOUT_FILENO;
+use std::io::{self, Write};
 use table::{Request, Table};
 
 const PART: u32 = 1;
 
-fn main() {
+fn main(rt: HostRuntime) -> io::Result<()> {
     let data = Request {
         base: 536870912,
         size: 1024,
@@ -20,33 +20,32 @@ fn main() {
     };
     let a = Table::new().try_add_region(PART, data);
     if a.no != 0 {
-        return refused(a.no);
+        return refused(&rt, a.no);
     }
     let b = a.table.try_add_region(PART, code);
     if b.no != 0 {
-        return refused(b.no);
+        return refused(&rt, b.no);
     }
-    switch_to(b.table);
+    switch_to(&rt, b.table)
 }
 
-fn switch_to(t: Table) {
+fn switch_to(rt: &impl Print, t: Table) -> io::Result<()> {
     let m = Mpu {
         slots: [Pair { rbar: 0, rasr: 0 }; device::SLOTS],
         control: 0,
     };
     let s = switch::switch_to_partition(m, t, PART);
     if s.no != 0 {
-        return refused(s.no);
+        return refused(rt, s.no);
     }
     let mut text = [0u8; journal::LONGEST_LOG];
     let log = s.switch.log;
     if let text::Put::At(n) = journal::put_log(&mut text, 0, log) {
-        io::write_all(STDOUT_FILENO, &text[..n]);
+        io::writer(rt).write_all(&text[..n])?;
     }
+    Ok(())
 }
 
-fn refused(no: u32) {
-    io::write_all(STDOUT_FILENO, b"no=");
-    io::print_decimal(STDOUT_FILENO, no as u64);
-    io::write_all(STDOUT_FILENO, b"\n");
+fn refused(rt: &impl Print, no: u32) -> io::Result<()> {
+    println!(rt; "no={no}")
 }
