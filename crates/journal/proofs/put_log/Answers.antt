@@ -14,8 +14,8 @@ returns-then-out-lt-LONGEST_LOG c =
 pub returns-then-out-at : goal.returns-then-out-at
 returns-then-out-at c =
     let a = c.args in
-    let f = log_full a.out.now a.at a.log (omega arith) in
-    record { value = f.0; out_after = f.1 }
+    let full = log_full a.out.now a.at a.log (omega arith) in
+    record { value = full.0; out_after = full.1 }
 
 pub returns : goal.returns
 returns c =
