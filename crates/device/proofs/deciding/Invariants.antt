@@ -1,3 +1,4 @@
+-- No slot from i on matches, so the highest match is among those below i.
 use mathlib.Core.Path.{◌≡◌}
 use Prim.Native.Nat.{◌≤◌}
 use Rattle.laws.specs.Search.{highest}

@@ -10,6 +10,7 @@ pub returns-then-w-eq1 : goal.returns-then-w-eq1
 unfolding triple_no triple_refusals
 returns-then-w-eq1 c = rw (lt-ltb _ _ c.if-w-lt-SLOTS.true, eq-eqb _ _ c.if-w-eq1.true)
 
+-- a slot is named, so the control is not
 pub returns-then-w-lt-SLOTS : goal.returns-then-w-lt-SLOTS
 unfolding triple_no triple_refusals
 returns-then-w-lt-SLOTS c = rw (lt-ltb _ _ c.if-w-lt-SLOTS.true, ne_eqb _ _ c.if-w-eq1.false, ne_eqb c.args.w.rnr ctrl (λ e. omega arith))

@@ -1,3 +1,4 @@
+-- No slot before i is bad, so the slots that are left decide.
 use mathlib.Core.Path.{◌≡◌}
 use Prim.Native.Nat.{◌-◌, ◌≤◌}
 use Rattle.laws.specs.Search.{some}

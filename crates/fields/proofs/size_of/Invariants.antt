@@ -1,3 +1,4 @@
+-- The power is the one that the field stands for, and it has not passed the size.
 use mathlib.Core.Path.{◌≡◌}
 use Prim.Native.Nat.{◌+◌, ◌-◌, ◌^◌, ◌≤◌}
 use Rattle.fields.proofs.size_of.Given as goal

@@ -1,3 +1,4 @@
+-- The form was read n times over, and the line goes on after each time before.
 use mathlib.Core.Path.{◌≡◌}
 use Prim.Native.Nat.{◌-◌, ◌≤◌}
 use Rattle.laws.specs.Search.{lowest}

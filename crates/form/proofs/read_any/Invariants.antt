@@ -1,3 +1,4 @@
+-- No form tried so far fits, so the choice is among the forms that are left.
 use mathlib.Core.Path.{◌≡◌}
 use mathlib.Core.Bool.{false}
 use Prim.Native.Nat.{◌-◌, ◌≤◌}

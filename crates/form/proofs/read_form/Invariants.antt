@@ -1,3 +1,4 @@
+-- The bytes of the form that are left, after what was read, give the whole reading.
 use mathlib.Core.Path.{◌≡◌}
 use Prim.Native.Nat.{◌-◌, ◌≤◌}
 use lib.ListN.{length, drop}

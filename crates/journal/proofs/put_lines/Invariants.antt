@@ -1,3 +1,4 @@
+-- The first i lines stand in the buffer, p is the place after them, and none took more than a line's room.
 use mathlib.Core.Path.{◌≡◌}
 use Prim.Native.Nat.{◌+◌, ◌*◌, ◌-◌, ◌≤◌}
 use lib.ListN.{length, take}

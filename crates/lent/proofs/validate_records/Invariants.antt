@@ -1,3 +1,4 @@
+-- What each of the three loops has passed; its parts are named, and the answers cite them so.
 use mathlib.Core.Path.{◌≡◌}
 use Prim.Native.Nat.{◌+◌, ◌-◌, ◌≤◌}
 use Rattle.laws.specs.Search.{lowest, paired, pair_low}

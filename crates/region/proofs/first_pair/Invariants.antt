@@ -1,3 +1,4 @@
+-- Record i meets none of the records before j, and no pair has its first record before i.
 use mathlib.Core.Path.{◌≡◌}
 use Prim.Native.Nat.{◌+◌, ◌-◌, ◌≤◌}
 use Rattle.laws.specs.Search.{lowest, paired, pair_low}

@@ -1,3 +1,4 @@
+-- No record before i is unsound, so the records that are left decide.
 use mathlib.Core.Path.{◌≡◌}
 use Prim.Native.Nat.{◌-◌, ◌≤◌}
 use Rattle.laws.specs.Search.{lowest}

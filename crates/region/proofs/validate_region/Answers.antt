@@ -1,5 +1,4 @@
 -- Each return's tests are the conditions of the refusal list, up to the one that held. Assumes nothing.
--- ---- what each test left: the condition does not hold
 use borrow.Author.Tests.{lt-ltb, le-ltb, eq-eqb, ne_eqb}
 use mathlib.Core.Path.{◌≡◌, sym, ◌∙◌}
 use mathlib.Core.Bool.{true}
@@ -11,6 +10,7 @@ use Rattle.region.specs.Sound.{soundness, region_no}
 use Rattle.region.proofs.validate_region.Goals as goal
 use Rattle.region.proofs.validate_region.Goals.{Else-not-is_power_of_two, Else-size-lt-MIN_REGION_SIZE}
 
+-- ---- what each test left: the condition does not hold
 power : (c : Else-not-is_power_of_two) → is_pow2 c.args.size ≡ true
 power c = sym c.is_power_of_two.ensures ∙ c.if-not-is_power_of_two.false
 

@@ -1,3 +1,4 @@
+-- The first i places hold the first i writes; the rest of the array is as it was.
 use mathlib.Core.Path.{◌≡◌}
 use mathlib.Core.List.{◌++◌}
 use Prim.Native.Nat.{◌-◌, ◌≤◌}

@@ -1,5 +1,4 @@
 -- The first write, a slot's, and past the slots the last; a slot of a lawful table holds what `slot_write` asks. Assumes nothing.
--- ---- the table that is lent
 use mathlib.Core.Path.{◌≡◌, sym, ◌∙◌, ap, ap₂}
 use mathlib.Core.Bool.{true}
 use Prim.Native.Nat.{◌-◌, ◌<◌}
@@ -17,6 +16,7 @@ use Rattle.sequence.proofs.write_at.Goals as goal
 use Rattle.sequence.proofs.write_at.Goals.{After-entry_of}
 
 module _ (c : After-entry_of) where
+  -- ---- the table that is lent
   abbrev table : Table
   table = table_of c.args.base.now c.args.size.now c.args.enabled.now c.args.writable.now
 

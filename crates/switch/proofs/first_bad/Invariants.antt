@@ -1,3 +1,4 @@
+-- Every triple before i is sound, so the first bad one is among those that are left.
 use mathlib.Core.Path.{◌≡◌}
 use Prim.Native.Nat.{◌-◌, ◌≤◌}
 use Rattle.laws.specs.Search.{lowest}

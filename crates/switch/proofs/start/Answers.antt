@@ -1,6 +1,5 @@
 -- The sequence's two refusals come first, with its own numbers; then the MPU's control. Past all three, the sequence's writes are the partition's.
 -- Assumes nothing.
--- ---- the sequence's answer
 use mathlib.Core.Path.{◌≡◌, sym, ◌∙◌, ap}
 use native.Mathlib.Omega.{arith}
 use Rattle.table.specs.Numbers.{slots}
@@ -12,6 +11,7 @@ use Rattle.switch.proofs.StartNo.{start_refused, start_sequence, start_12, start
 use Rattle.switch.proofs.start.Goals as goal
 use Rattle.switch.proofs.start.Goals.{After-program_partition-s, Else-s-ne0}
 
+-- ---- the sequence's answer
 number : (c : After-program_partition-s) → c.program_partition-s.result.no ≡ (sequence slots c.args.t c.args.part).no
 number c = ap (λ (s : Sequence). s.no) c.program_partition-s.ensures
 

@@ -1,5 +1,4 @@
 -- The position, and then the register write's own number, settle what a step does. Assumes nothing.
--- the register write's number and MPU are the definition's
 use mathlib.Core.Path.{◌≡◌, sym, ◌∙◌, ap}
 use Rattle.device.specs.declared.Written.{Written}
 use Rattle.device.specs.RegisterWrite.{write_register}
@@ -10,6 +9,7 @@ use Rattle.switch.proofs.StepLaws.{step_finished, step_refused, step_wrote, in_n
 use Rattle.switch.proofs.step.Goals as goal
 use Rattle.switch.proofs.step.Goals.{After-write_register-done}
 
+-- the register write's number and MPU are the definition's
 number : (c : After-write_register-done) → let s = c.args.s in c.write_register-done.result.no ≡ (write_register slots s.mpu (due s)).no
 number c = ap (λ (w : Written). w.no) c.write_register-done.ensures
 

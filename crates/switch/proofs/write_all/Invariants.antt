@@ -1,3 +1,4 @@
+-- The writes that are left take the MPU as it is now to where all of them take the one received.
 use mathlib.Core.Path.{◌≡◌}
 use Prim.Native.Nat.{◌-◌, ◌≤◌}
 use lib.ListN.{length, drop}

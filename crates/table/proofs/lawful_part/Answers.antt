@@ -1,5 +1,4 @@
 -- The two tests of the definition, in its order. Assumes nothing.
--- whether an unsound entry was found
 use mathlib.Core.Path.{◌≡◌, sym, ◌∙◌}
 use mathlib.Core.Bool.{Bool}
 use Prim.Native.Nat.{ℕ}
@@ -12,6 +11,7 @@ use Rattle.table.proofs.NumbersLaws.{found_some}
 use Rattle.table.proofs.lawful_part.Goals as goal
 use Rattle.table.proofs.lawful_part.Goals.{After-found, Start}
 
+-- whether an unsound entry was found
 abbrev unsound : Start → ℕ → Bool
 unsound a s = is_unsound (slot_entry slots (table_of a.args.base.now a.args.size.now a.args.enabled.now a.args.writable.now) a.args.p.0 s)
 

@@ -1,3 +1,4 @@
+-- Every slot before s answers no, so the lowest yes is among those that are left.
 use mathlib.Core.Path.{◌≡◌}
 use Prim.Native.Nat.{◌-◌, ◌≤◌}
 use Rattle.laws.specs.Search.{lowest}

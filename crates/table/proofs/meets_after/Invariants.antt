@@ -1,3 +1,4 @@
+-- No slot from the first one looked at up to s meets the range, so the slots that are left decide.
 use mathlib.Core.Path.{◌≡◌}
 use Prim.Native.Nat.{◌-◌, ◌≤◌}
 use Rattle.laws.specs.Search.{some}

@@ -1,3 +1,4 @@
+-- The first j bytes of the word are in the buffer, which keeps its length.
 use mathlib.Core.Path.{◌≡◌}
 use Prim.Native.Nat.{◌-◌, ◌≤◌}
 use lib.ListN.{length}

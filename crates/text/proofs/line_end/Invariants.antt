@@ -1,3 +1,4 @@
+-- None of the bytes looked at so far is a newline, so the bytes that are left decide.
 use mathlib.Core.Path.{◌≡◌}
 use Prim.Native.Nat.{◌-◌}
 use lib.ListN.{length}

@@ -1,3 +1,4 @@
+-- The first j bytes are those of the word, so what is left of it decides.
 use mathlib.Core.Path.{◌≡◌}
 use Prim.Native.Nat.{◌+◌, ◌-◌, ◌≤◌}
 use lib.ListN.{length, drop}

@@ -1,3 +1,4 @@
+-- The value so far and the digits that are left give the value of the run; it has not passed the largest.
 use mathlib.Core.Path.{◌≡◌}
 use mathlib.Core.List.{List}
 use Prim.Native.Nat.{ℕ, ◌+◌, ◌-◌, ◌≤◌}

@@ -1,3 +1,4 @@
+-- The digits of what is left, and then those already spelt, are those of the number; each one to come has a place.
 use mathlib.Core.Path.{◌≡◌}
 use mathlib.Core.List.{◌++◌}
 use Prim.Native.Nat.{◌+◌, ◌^◌, ◌≤◌, ◌<◌}

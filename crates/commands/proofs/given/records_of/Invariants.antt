@@ -1,3 +1,4 @@
+-- The form was read i times, and the first i places hold the records that it gave.
 use mathlib.Core.Path.{◌≡◌}
 use mathlib.Core.List.{◌++◌}
 use Prim.Native.Nat.{◌-◌, ◌≤◌}

@@ -1,3 +1,4 @@
+-- Every partition before p is lawful, so the partitions that are left decide.
 use mathlib.Core.Path.{◌≡◌}
 use mathlib.Core.Bool.{not}
 use Prim.Native.Nat.{◌-◌, ◌≤◌}

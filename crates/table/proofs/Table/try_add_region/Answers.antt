@@ -1,6 +1,5 @@
 -- Each return's tests are those of the refusal list, up to the one that held; past them all, the request is granted in the slot that the search
 -- for a free one found. Assumes nothing.
--- ---- what is known at each place, once the partition is made
 use mathlib.Core.Path.{◌≡◌, sym, ◌∙◌, ap, ap₂}
 use mathlib.Core.Bool.{true, false, not}
 use Prim.Native.Nat.{ℕ, ◌<◌}
@@ -20,6 +19,7 @@ use Rattle.table.proofs.BuilderNo.{no_1, no_9, no_region, no_6, no_7, no_0, add_
 use Rattle.table.proofs.Table.try_add_region.Goals as goal
 use Rattle.table.proofs.Table.try_add_region.Goals.{After-first_slot-2, After-flat, After-found, Else-found, Else-no-ne0, Else-not-lawful, In-Is, In-Is-first_slot}
 
+-- ---- what is known at each place, once the partition is made
 made : (k : In-Is) → (k.args.part < parts) × (k.in-Is.p.0 ≡ k.args.part)
 made k = parted_is _ _ (sym k.new.ensures ∙ k.in-Is.is)
 
