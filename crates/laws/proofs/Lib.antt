@@ -2,6 +2,8 @@ pub mod BoolLaws
 pub mod TestLaws
 pub mod RefuseLaws
 pub mod SearchLaws
+pub mod FoundLaws
+pub mod RangeLaws
 pub mod PairLaws
 pub mod RowsLaws
 pub mod PowerLaws

@@ -35,6 +35,13 @@ module _ {X : Type 0} (f : ℕ → X) where
   pub fill_end : (d : List X) (n : ℕ) → length d ≤ n → listed f 0 n ++ drop n d ≡ listed f 0 n
   fill_end d n h = rw (drop_of_length-le d h) (append-nil (listed f 0 n))
 
+-- a list that holds the function's value at each place is the function listed
+pub listed_by : {X : Type 0} (f : ℕ → X) (i : ℕ) (xs : List X) (z : X) → ((j : ℕ) → j < length xs → get_or xs j z ≡ f (i + j)) → xs ≡ listed f i (length xs)
+listed_by f i [] z h = refl
+listed_by f i (x ∷ xs) z h =
+    ap₂ ◌∷◌ (h 0 (suc-le-suc zero-le) ∙ ap f (add-zero i))
+    (listed_by f (suc i) xs z (λ j l. h (suc j) (suc-le-suc l) ∙ ap f (add-suc i j ∙ sym (suc-add i j))))
+
 -- two functions that agree, place by place, are listed alike
 pub listed_same : {X : Type 0} (f g : ℕ → X) (i j k : ℕ) → ((m : ℕ) → m < k → f (i + m) ≡ g (j + m)) → listed f i k ≡ listed g j k
 listed_same f g i j zero e = refl

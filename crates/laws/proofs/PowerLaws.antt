@@ -1,8 +1,8 @@
 -- Powers of two. A power is its own logarithm's: the lowest k with 2 ^ j < 2 ^ (k + 1) is j. And n has one digit set, so that n - 1 has none
 -- in its place and all below, exactly if n is a power: by halving n. Assumes nothing.
-use mathlib.Core.Path.{◌≡◌, refl, sym, ◌∙◌, ap, subst}
+use mathlib.Core.Path.{◌≡◌, refl, sym, ◌∙◌, subst}
 use mathlib.Core.Bool.{true, false}
-use mathlib.Core.Logic.{◌↔◌, ⊎_elim}
+use mathlib.Core.Logic.{◌↔◌}
 use Prim.Native.Nat.{ℕ, zero, suc, ◌+◌, ◌-◌, ◌*◌, ◌/◌, ◌%◌, ◌^◌, ◌≤◌, ◌<◌, zero-le, min}
 use native.Mathlib.Nat.{pow-suc, mod_self, mul-mod_left, not-le_of_lt}
 use native.Mathlib.Decide.{dec_lt}

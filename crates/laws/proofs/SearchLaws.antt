@@ -11,6 +11,7 @@ use native.Mathlib.Omega.{arith}
 use borrow.Author.Tests.{ltb-true, ltb-false, lt-ltb, le-ltb, not-true, not-false}
 use lib.Dec.{ltb}
 use Rattle.laws.specs.Pick.{pick}
+use Rattle.laws.proofs.BoolLaws.{same_test}
 use Rattle.laws.specs.Search.{first, lowest, highest, some, every, Least, Greatest}
 
 -- ---- lowest, from the front
@@ -126,3 +127,17 @@ module _ (f : ℕ → Bool) where
     where
       apart : {r s : ℕ} → Greatest f n r → Greatest f n s → r < s → ⊥
       apart {r} {s} a b h = true≢false (sym (b.passes (omega arith)) ∙ a.none (s - 1) (omega arith) (omega arith))
+
+-- ---- searches whose tests agree below n
+module _ {f g : ℕ → Bool} where
+  pub some_same : (n : ℕ) → ((k : ℕ) → k < n → f k ≡ g k) → some f 0 n ≡ some g 0 n
+  some_same n h =
+      let some-f = some_exactly f {i = 0} {m = n} zero-le in
+      let some-g = some_exactly g {i = 0} {m = n} zero-le in
+      same_test _ _
+      (λ e. let w = some-f.0 e in some-g.1 (w.0, w.1, w.2, sym (h w.0 w.2) ∙ w.3), λ e. let w = some-g.0 e in some-f.1 (w.0, w.1, w.2, h w.0 w.2 ∙ w.3))
+
+  pub highest_same : (n : ℕ) → ((k : ℕ) → k < n → f k ≡ g k) → highest f n ≡ highest g n
+  unfolding highest
+  highest_same zero h = refl
+  highest_same (suc n) h = rw (h n (le_refl (suc n)), highest_same n (λ k l. h k (omega arith)))

@@ -1,0 +1,3 @@
+pub mod NumberLaws
+pub mod AnswerLaws
+pub mod Determined
