@@ -7,11 +7,15 @@ use mathlib.Core.Logic.{◌↔◌}
 use Prim.Native.Nat.{ℕ, ◌+◌, ◌*◌, ◌/◌, ◌%◌, ◌^◌, ◌≤◌, ◌<◌}
 use native.Mathlib.Nat.{div-mul-le_self, div-eq_of_lt-le, div-eq_of_lt, mod-lt, div-add-mod', add-mul, one-mul}
 use native.Mathlib.Omega.{arith}
-use lib.Pow.{pow_pos}
+use lib.Pow.{pow_pos, shr-shr}
 use Rattle.device.specs.declared.Pair.{Pair}
 use Rattle.device.specs.Registers.{enabled, size_field}
 use Rattle.device.specs.Decision.{matches}
 use Rattle.laws.proofs.TestLaws.{and_exactly, eq_exactly}
+
+-- to shift by k and then by one is to divide by 2^(k + 1)
+pub shifted : (x k : ℕ) → x / 2 ^ k / 2 ≡ x / 2 ^ (k + 1)
+shifted x k = shr-shr x k 1
 
 -- a is one of the 2^k bytes from b on
 pub record Within (b k a : ℕ) : Type 0 where

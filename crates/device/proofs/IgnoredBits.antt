@@ -5,15 +5,13 @@ use mathlib.Core.Path.{◌≡◌, refl, sym, ◌∙◌}
 use mathlib.Core.Bool.{Bool, true, false, true≢false}
 use mathlib.Core.Logic.{inl}
 use Prim.Native.Nat.{ℕ, zero, suc, ◌+◌, ◌-◌, ◌/◌, ◌%◌, ◌^◌, ◌≤◌, ◌<◌, zero-le}
-use native.Mathlib.Nat.{le_refl}
 use native.Mathlib.Omega.{arith}
 use borrow.Author.Tests.{ltb-true, ltb-false, eqb-true, ne_eqb}
 use lib.Dec.{ltb, eqb}
 use lib.Pow.{shr-shr}
 use Rattle.laws.specs.Pick.{pick}
-use Rattle.laws.specs.Search.{some, highest, Greatest}
-use Rattle.laws.proofs.SearchLaws.{highest_greatest, none_exactly, some_exactly}
-use Rattle.laws.proofs.BoolLaws.{same_test}
+use Rattle.laws.specs.Search.{some, Greatest}
+use Rattle.laws.proofs.SearchLaws.{highest_greatest, none_exactly, some_same, highest_same}
 use Rattle.device.specs.declared.Pair.{Pair}
 use Rattle.device.specs.declared.Mpu.{Mpu}
 use Rattle.device.specs.declared.Access.{Access}
@@ -60,20 +58,6 @@ module _ {p q : Pair} (s : Alike p q) where
           let h : least_size ≤ size_field p = ltb-false _ _ f in
           let same = s.fields (eqb-true _ _ e) in
           rw (← s.enable, ← same.size, part p.rbar h, part q.rbar h, same.base)
-
--- ---- searches whose tests agree below n
-module _ {f g : ℕ → Bool} where
-  some_same : (n : ℕ) → ((k : ℕ) → k < n → f k ≡ g k) → some f 0 n ≡ some g 0 n
-  some_same n h =
-      let some-f = some_exactly f {i = 0} {m = n} zero-le in
-      let some-g = some_exactly g {i = 0} {m = n} zero-le in
-      same_test _ _
-      (λ e. let w = some-f.0 e in some-g.1 (w.0, w.1, w.2, sym (h w.0 w.2) ∙ w.3), λ e. let w = some-g.0 e in some-f.1 (w.0, w.1, w.2, h w.0 w.2 ∙ w.3))
-
-  highest_same : (n : ℕ) → ((k : ℕ) → k < n → f k ≡ g k) → highest f n ≡ highest g n
-  unfolding highest
-  highest_same zero h = refl
-  highest_same (suc n) h = rw (h n (le_refl (suc n)), highest_same n (λ k l. h k (omega arith)))
 
 module _ (n : ℕ) (m o : Mpu) (a : Access) (control : m.control ≡ o.control) (slots : (k : ℕ) → k < n → Alike (slot_at m.slots k) (slot_at o.slots k)) where
   judged_alike : ((k : ℕ) → k < n → bad_at m.slots k ≡ false) → judged n m a ≡ judged n o a

@@ -5,18 +5,21 @@
 --   deciding n ss x == one more than the highest of n slots that matches; 0 where none does
 --   unmatched c p   == what is answered where no slot matches
 --   judged n m a    == rules 4 and 5: the deciding slot's row answers, or no slot matches
---   decision n m a  == the answer of the MPU m, of n slots, to the access a
+--   decision n m a  == the answer of the MPU m, of n slots, to the access a; refused where its control is outside the list
 --   number_of       == the number of the paper for an answer
 --   decision_no m   == the number that is due: 12 for a control outside the list
-use Rattle.std.specs.Prelude.{Bool, not, ◌&&◌, ◌||◌, List, [], ◌∷◌, ℕ, ◌+◌, ◌-◌, ◌/◌, ◌^◌, ltb, leb, eqb}
+use Rattle.std.specs.Prelude.{Bool, not, ◌&&◌, ◌||◌, List, [], ◌∷◌, ℕ, ◌+◌, ◌-◌, ◌/◌, ◌^◌, ltb, leb, eqb, Result, Ok, Err}
 use Rattle.laws.specs.Pick.{pick}
 use Rattle.laws.specs.Refuse.{◌⇒◌, refuse}
 use Rattle.laws.specs.Search.{some, highest}
+use Rattle.refusal.specs.declared.Refusal.{Refusal}
+use Rattle.refusal.specs.declared.Refusal.TheVariants.{BadControl}
+use Rattle.refusal.specs.Refusal.{number}
 use Rattle.device.specs.declared.Pair.{Pair}
 use Rattle.device.specs.declared.Mpu.{Mpu}
 use Rattle.device.specs.declared.Access.{Access}
 use Rattle.device.specs.declared.Answer.{Answer}
-use Rattle.device.specs.declared.Answer.TheVariants.{Private, Unchecked, Undefined, Permitted, Denied, Refused}
+use Rattle.device.specs.declared.Answer.TheVariants.{Private, Unchecked, Undefined}
 use Rattle.device.specs.Registers.{slot_at, enabled, size_field, subregions, ap_field, enables, priv_def_ena, allowed}
 use Rattle.device.specs.Permission.{answered, row_answer}
 
@@ -55,20 +58,17 @@ judged n m a =
     let at = deciding n m.slots a.address in
     pick (eqb at 0) (unmatched m.control a.privileged) (row_answer (ap_field (slot_at m.slots (at - 1))) a.privileged a.kind)
 
-unfoldable pub decision : ℕ → Mpu → Access → Answer
+unfoldable pub decision : ℕ → Mpu → Access → Result Answer Refusal
 decision n m a =
-    pick (not (allowed m.control)) Refused
+    pick (not (allowed m.control)) (Err BadControl)
+    (Ok
     (pick (private_bus a.address) Private
     (pick (not (enables m.control)) Unchecked
-    (pick (some (bad_at m.slots) 0 n) Undefined (judged n m a))))
+    (pick (some (bad_at m.slots) 0 n) Undefined (judged n m a)))))
 
-abbrev pub number_of : Answer → ℕ
-number_of Private = 0
-number_of Unchecked = 0
-number_of Undefined = 0
-number_of Permitted = 0
-number_of Denied = 0
-number_of Refused = 12
+abbrev pub number_of : Result Answer Refusal → ℕ
+number_of (Ok x) = 0
+number_of (Err e) = number e
 
 unfoldable pub decision_no : Mpu → ℕ
 decision_no m = refuse ((not (allowed m.control) ⇒ 12) ∷ [])

@@ -2,13 +2,16 @@
 // From the ARMv7-M manual, as the paper narrows it. Every routine takes any value of its types.
 #![tactic(auto)]
 
-ghost use Rattle.std.specs.Prelude.{◌≡◌, ◌<◌, ◌/◌, ◌%◌};
-ghost use Rattle.laws.specs.Search.{some, highest};
-ghost use Rattle.device.specs.Registers.{slot_count, allowed};
-ghost use Rattle.device.specs.RegisterWrite.{triple_no, stored, write_register};
+ghost use Rattle.std.specs.Prelude.{◌≡◌, ◌<◌, ◌/◌, ◌%◌, reverse};
+ghost use Rattle.std.specs.List.{find, list_any};
+ghost use Rattle.device.specs.Registers.{slot_count, allowed, enabled, size_field};
+ghost use Rattle.device.specs.RegisterWrite.{triple_no, pair_of, refused_no, write_no, stored, write_register, written_of};
 ghost use Rattle.device.specs.Permission.{row_at, row_answer, answered};
 ghost use Rattle.device.specs.Packing.{packed, unpacked};
-ghost use Rattle.device.specs.Decision.{bad, bad_at, matches, matches_at, private_bus, unmatched, judged, decision, number_of, decision_no};
+ghost use Rattle.device.specs.Decision.{bad, matches, private_bus, unmatched, judged, decision, number_of, decision_no};
+
+use refusal::{Refusal, Refused};
+use std::fmt;
 
 pub const SLOTS: usize = 8;
 
@@ -38,10 +41,11 @@ const PRIVDEFENA_AT: u32 = 4;
 const UNDEFINED: u32 = 4;
 
 // By AP: the unprivileged right, then the privileged.
+// Stays: document 01 names a constant array of eight packed rows.
 const ROWS: [u32; 8] = [0o00, 0o03, 0o13, 0o33, 0o44, 0o01, 0o11, 0o44];
 
 // What one register write sends.
-#[derive(Clone, Copy)]
+#[derive(Clone, Copy, Debug, Default, PartialEq, Eq)]
 pub struct Write {
     pub rnr: u32,
     pub rbar: u32,
@@ -49,40 +53,45 @@ pub struct Write {
 }
 
 // One slot.
-#[derive(Clone, Copy)]
+#[derive(Clone, Copy, Debug, Default, PartialEq, Eq)]
 pub struct Pair {
     pub rbar: u32,
     pub rasr: u32,
 }
 
-#[derive(Clone, Copy)]
+// What a write sends to a slot.
+impl From<Write> for Pair {
+    ghost from_gives = { λ w p. p ≡ pair_of w };
+
+    fn from(w: Write) -> Pair {
+        Pair {
+            rbar: w.rbar,
+            rasr: w.rasr,
+        }
+    }
+}
+
+#[derive(Clone, Copy, Debug, Default, PartialEq, Eq)]
 pub struct Mpu {
     pub slots: [Pair; SLOTS],
     pub control: u32,
 }
 
-// The MPU after a write, beside a refusal's number.
-#[derive(Clone, Copy)]
-pub struct Written {
-    pub no: u32,
-    pub mpu: Mpu,
-}
-
-#[derive(Clone, Copy)]
+#[derive(Clone, Copy, Debug, PartialEq, Eq)]
 pub enum Kind {
     Read,
     Write,
 }
 
 // An access of one byte.
-#[derive(Clone, Copy)]
+#[derive(Clone, Copy, Debug, PartialEq, Eq)]
 pub struct Access {
     pub address: u32,
     pub kind: Kind,
     pub privileged: bool,
 }
 
-#[derive(Clone, Copy)]
+#[derive(Clone, Copy, Debug, PartialEq, Eq)]
 pub enum Answer {
     // The private bus, not judged.
     Private,
@@ -90,167 +99,170 @@ pub enum Answer {
     Undefined,
     Permitted,
     Denied,
-    // The held control is none that an MPU has.
-    Refused,
+}
+
+// The console's word for it.
+impl fmt::Display for Answer {
+    fn fmt<W: fmt::Write>(&self, f: &mut fmt::Formatter<W>) -> fmt::Result {
+        f.write_str(match self {
+            Answer::Private => "private",
+            Answer::Unchecked => "unchecked",
+            Answer::Undefined => "undefined",
+            Answer::Permitted => "permitted",
+            Answer::Denied => "denied",
+        })
+    }
 }
 
 // May the MPU hold this control value?
+#[tactic(auto, unfolding(crate::specs::Registers::allowed))]
 pub fn is_allowed(control: u32) -> bool
     ensures { result ≡ allowed control }
 {
-    if control == 0 {
-        return true;
-    }
-    if control == 1 {
-        return true;
-    }
-    if control == 4 {
-        return true;
-    }
-    control == 5
+    matches!(control, 0 | 1 | 4 | 5)
 }
 
-// Would an MPU whose control is allowed refuse this write? 0 for no, else the first reason.
-pub fn refused_write(w: Write) -> u32
-    ensures { result ≡ triple_no slot_count w }
+// Why would an MPU whose control is allowed refuse this write? The first reason.
+#[tactic(auto, unfolding(crate::specs::RegisterWrite::triple_no, crate::specs::RegisterWrite::triple_refusals))]
+pub fn refused_write(w: Write) -> Option<Refusal>
+    ensures { refused_no result ≡ triple_no slot_count w }
 {
     if (w.rnr as usize) < SLOTS {
-        if w.rbar / VALID_AT % 2 == 1 {
-            return 11;
-        }
-        return 0;
+        return (w.rbar / VALID_AT % 2 == 1).then_some(Refusal::ValidBit);
     }
     if w.rnr != CTRL {
-        return 10;
+        return Some(Refusal::NoRegister);
     }
-    if is_allowed(w.rasr) { 0 } else { 12 }
+    (!is_allowed(w.rasr)).then_some(Refusal::BadControl)
 }
 
-// Make one register write; a refused one leaves the MPU as it was.
-pub fn write_register(m: Mpu, w: Write) -> Written
-    ensures { result ≡ write_register slot_count m w }
+// Make one register write; a refused one hands back the MPU as it was.
+#[tactic(auto, unfolding(crate::specs::RegisterWrite::write_register))]
+pub fn write_register(m: Mpu, w: Write) -> Result<Mpu, Refused<Mpu>>
+    ensures { written_of result ≡ write_register slot_count m w }
 {
-    if !is_allowed(m.control) {
-        return Written { no: 12, mpu: m };
-    }
-    let no = refused_write(w);
-    if no != 0 {
-        return Written { no, mpu: m };
-    }
-    Written {
-        no: 0,
-        mpu: store(m, w),
+    match m.refuses(w) {
+        Some(why) => Err(Refused { why, held: m }),
+        None => Ok(m.store(w)),
     }
 }
 
 // What does the MPU answer to this access?
-pub fn decide(m: Mpu, a: Access) -> Answer
+#[tactic(auto, using(crate::proofs::JudgedLaws::bad_found), unfolding(crate::specs::Decision::decision, crate::specs::Decision::decision_no))]
+pub fn decide(m: Mpu, a: Access) -> Result<Answer, Refusal>
     ensures answer { result ≡ decision slot_count m a }
     ensures number { number_of result ≡ decision_no m }
 {
     if !is_allowed(m.control) {
-        return Answer::Refused;
+        return Err(Refusal::BadControl);
     }
     if is_private(a.address) {
-        return Answer::Private;
+        return Ok(Answer::Private);
     }
     if m.control % 2 == 0 {
-        return Answer::Unchecked;
+        return Ok(Answer::Unchecked);
     }
-    let slots = m.slots;
-    if some_bad(slots) {
-        return Answer::Undefined;
+    if m.has_bad() {
+        return Ok(Answer::Undefined);
     }
-    judge(m, a)
-}
-
-fn store(m: Mpu, w: Write) -> Mpu
-    ensures { result ≡ stored slot_count m w }
-{
-    let mut n = m;
-    let i = w.rnr as usize;
-    if i < SLOTS {
-        n.slots[i] = Pair {
-            rbar: w.rbar,
-            rasr: w.rasr,
-        };
-    } else {
-        n.control = w.rasr;
-    }
-    n
+    Ok(m.judge(a))
 }
 
 fn is_private(address: u32) -> bool
     ensures { result ≡ private_bus address }
 {
-    if address < PRIVATE_FIRST {
-        return false;
-    }
-    address <= PRIVATE_LAST
+    (PRIVATE_FIRST..=PRIVATE_LAST).contains(&address)
 }
 
-// What the highest matching slot answers, or the background where none matches.
-fn judge(m: Mpu, a: Access) -> Answer
-    ensures { result ≡ judged slot_count m a }
-{
-    let slots = m.slots;
-    let at = deciding(slots, a.address);
-    if at == 0 {
-        return background(m.control, a.privileged);
-    }
-    let p = slots[at - 1];
-    by_row(p.rasr / AP_AT % 8, a)
-}
-
-// Is some enabled slot one whose answer the paper leaves open?
-fn some_bad(slots: [Pair; SLOTS]) -> bool
-    ensures { result ≡ some (bad_at slots) 0 slot_count }
-{
-    let mut i = 0;
-    while i < SLOTS {
-        if is_bad(slots[i]) {
-            return true;
+impl Mpu {
+    // Why is this write refused? A bad held control comes first.
+    #[tactic(auto, unfolding(crate::specs::RegisterWrite::write_no, crate::specs::RegisterWrite::triple_no, crate::specs::RegisterWrite::triple_refusals))]
+    fn refuses(&self, w: Write) -> Option<Refusal>
+        ensures { refused_no result ≡ write_no slot_count self.now w }
+    {
+        if !is_allowed(self.control) {
+            return Some(Refusal::BadControl);
         }
-        i += 1;
+        refused_write(w)
     }
-    false
-}
 
-// One more than the highest slot that matches; 0 where none does.
-fn deciding(slots: [Pair; SLOTS], address: u32) -> usize
-    ensures { result ≡ highest (matches_at slots address) slot_count }
-{
-    let mut i = SLOTS;
-    while 0 < i {
-        if is_match(slots[i - 1], address) {
-            return i;
+    // The write stored in its one place, a slot or the control.
+    #[tactic(auto, unfolding(crate::specs::RegisterWrite::stored))]
+    fn store(mut self, w: Write) -> Mpu
+        ensures { result ≡ stored slot_count self w }
+    {
+        let i = w.rnr as usize;
+        if i < SLOTS {
+            self.slots[i] = Pair::from(w);
+        } else {
+            self.control = w.rasr;
         }
-        i -= 1;
+        self
     }
-    0
+
+    // Is some enabled slot one whose answer the paper leaves open?
+    fn has_bad(&self) -> bool
+        ensures { result ≡ list_any bad self.now.slots }
+    {
+        self.slots.iter().any(|p| p.is_bad())
+    }
+
+    // The highest slot that matches.
+    fn deciding(&self, address: u32) -> Option<Pair>
+        ensures { result ≡ find (matches address) (reverse self.now.slots) }
+    {
+        self.slots
+            .iter()
+            .rev()
+            .find(|p| p.is_match(address))
+            .copied()
+    }
+
+    // What the highest matching slot answers, or the background where none matches.
+    #[tactic(auto, using(crate::proofs::JudgedLaws::judged_found))]
+    fn judge(&self, a: Access) -> Answer
+        ensures { result ≡ judged slot_count self.now a }
+    {
+        match self.deciding(a.address) {
+            Some(p) => by_row(p.rasr / AP_AT % 8, a),
+            None => background(self.control, a.privileged),
+        }
+    }
 }
 
-fn is_bad(p: Pair) -> bool
-    ensures { result ≡ bad p }
-{
-    if p.rasr % 2 == 0 {
-        return false;
+impl Pair {
+    fn is_enabled(&self) -> bool
+        ensures { result ≡ enabled self.now }
+    {
+        self.rasr % 2 == 1
     }
-    p.rasr / SIZE_AT % 32 < LEAST_SIZE || p.rasr / SUBREGIONS_AT % 256 != 0
-}
 
-// Two shifts divide by 2^(SIZE + 1), also where that is 2^32.
-fn is_match(p: Pair, address: u32) -> bool
-    ensures { result ≡ matches address p }
-{
-    if p.rasr % 2 == 0 {
-        return false;
+    fn size_field(&self) -> u32
+        ensures { result ≡ size_field self.now }
+    {
+        self.rasr / SIZE_AT % 32
     }
-    let size = p.rasr / SIZE_AT % 32;
-    (address >> size) >> 1 == (p.rbar >> size) >> 1
+
+    #[tactic(auto, unfolding(crate::specs::Decision::bad))]
+    fn is_bad(&self) -> bool
+        ensures { result ≡ bad self.now }
+    {
+        self.is_enabled()
+            && (self.size_field() < LEAST_SIZE || self.rasr / SUBREGIONS_AT % 256 != 0)
+    }
+
+    // Two shifts divide by 2^(SIZE + 1), also where that is 2^32.
+    #[tactic(auto, using(crate::proofs::BlockLaws::shifted), unfolding(crate::specs::Decision::matches))]
+    fn is_match(&self, address: u32) -> bool
+        ensures { result ≡ matches address self.now }
+    {
+        let size = self.size_field();
+        self.is_enabled() && (address >> size) >> 1 == (self.rbar >> size) >> 1
+    }
 }
 
 // What the row of this AP answers.
+#[tactic(auto, unfolding(crate::specs::Permission::row_answer))]
 fn by_row(ap: u32, a: Access) -> Answer
     requires { ap < 8 }
     ensures { result ≡ row_answer ap a.privileged a.kind }
@@ -287,11 +299,7 @@ fn grant(right: u32, kind: Kind) -> Answer
 fn background(control: u32, privileged: bool) -> Answer
     ensures { result ≡ unmatched control privileged }
 {
-    if privileged {
-        permit(control / PRIVDEFENA_AT % 2 == 1)
-    } else {
-        Answer::Denied
-    }
+    permit(privileged && control / PRIVDEFENA_AT % 2 == 1)
 }
 
 fn permit(yes: bool) -> Answer

@@ -1,4 +1,5 @@
 pub mod SizeLaws
+pub mod ReachLaws
 pub mod RasrLaws
 pub mod Determined
 pub mod Worked

@@ -4,7 +4,9 @@
 ghost use Rattle.std.specs.Prelude.{◌≡◌, true, ◌≤◌};
 ghost use Rattle.laws.specs.Power.{is_pow2};
 ghost use Rattle.region.specs.Sound.{min_region_size};
-ghost use Rattle.fields.specs.Fields.{size_field, ap_field, size_answer, rasr_answer};
+ghost use Rattle.fields.specs.Fields.{size_field, ap_field, size_answer, rasr_answer, field_of};
+
+use refusal::Refusal;
 
 const AP_READ_WRITE: u32 = 3;
 
@@ -19,27 +21,18 @@ pub struct Attributes {
     pub writable: bool,
 }
 
-// A field's value beside a refusal's number; the value is 0 where it is refused.
-#[derive(Clone, Copy)]
-pub struct Field {
-    pub no: u32,
-    pub value: u32,
-}
-
 // The SIZE field of a region's size.
-pub fn size_field(size: u32) -> Field
-    ensures { result ≡ size_answer size }
+#[tactic(auto, unfolding(crate::specs::Fields::size_answer, crate::specs::Fields::sizing))]
+pub fn size_field(size: u32) -> Result<u32, Refusal>
+    ensures { field_of result ≡ size_answer size }
 {
     if !region::is_power_of_two(size) {
-        return Field { no: 2, value: 0 };
+        return Err(Refusal::NoPowerOfTwo);
     }
     if size < region::MIN_REGION_SIZE {
-        return Field { no: 3, value: 0 };
+        return Err(Refusal::TooSmall);
     }
-    Field {
-        no: 0,
-        value: size_of(size),
-    }
+    Ok(size_of(size))
 }
 
 // The AP field: read and write for all, or read for all.
@@ -54,20 +47,17 @@ pub fn ap_field(writable: bool) -> u32
 }
 
 // The value of RASR that grants an enabled entry.
-pub fn rasr_for(a: Attributes) -> Field
-    ensures { result ≡ rasr_answer a }
+#[tactic(auto, using(crate::proofs::SizeLaws::size_most, crate::proofs::RasrLaws::ap_range), unfolding(crate::specs::Fields::rasr_answer, crate::specs::Fields::size_answer, crate::specs::Fields::sizing, crate::specs::Fields::rasr))]
+pub fn rasr_for(a: Attributes) -> Result<u32, Refusal>
+    ensures { field_of result ≡ rasr_answer a }
 {
-    let size = size_field(a.size);
-    if size.no != 0 {
-        return size;
-    }
-    Field {
-        no: 0,
-        value: 1 + 2 * size.value + AP_UNIT * ap_field(a.writable),
-    }
+    let size = size_field(a.size)?;
+    Ok(1 + 2 * size + AP_UNIT * ap_field(a.writable))
 }
 
 // SIZE by comparison with one power after the other.
+// Stays: document 01 gives this place its form (trailing zeros) with a later request.
+#[tactic(auto, using(laws::proofs::PowerLaws::pow2_exactly, laws::proofs::PowerLaws::next_power, laws::proofs::PowerLaws::pow_below, laws::proofs::PowerLaws::pow_double, crate::proofs::ReachLaws::reached))]
 fn size_of(size: u32) -> u32
     requires { (is_pow2 size ≡ true) × (min_region_size ≤ size) }
     ensures { result ≡ size_field size }

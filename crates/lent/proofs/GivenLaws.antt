@@ -9,8 +9,7 @@ use borrow.Author.Tests.{leb-true, leb-false, lt-ltb}
 use lib.Dec.{leb}
 use lib.ListN.{length, take}
 use lib.Seq.{take_all, length-take-le, get_or-take}
-use Rattle.region.specs.declared.Judged.TheVariants.{Short}
-use Rattle.region.specs.List.{judged}
+use Rattle.region.specs.List.{Short, judged}
 use Rattle.region.proofs.UnreadLaws.{same_list}
 use Rattle.lent.specs.declared.MpuRegion.{MpuRegion}
 use Rattle.lent.specs.Records.{no_record, range_of, range_at, judged_of}

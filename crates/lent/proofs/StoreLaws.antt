@@ -6,7 +6,7 @@ use lib.Dec.{ltb, eqb}
 use lib.ListN.{set}
 use Rattle.device.specs.declared.Mpu.{Mpu}
 use Rattle.device.specs.declared.Write.{Write}
-use Rattle.device.specs.declared.Written.{Written}
+use Rattle.device.specs.RegisterWrite.{Written}
 use Rattle.device.specs.Registers.{slot_count}
 use Rattle.device.specs.RegisterWrite.{stored, write_register}
 

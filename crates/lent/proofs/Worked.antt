@@ -6,8 +6,7 @@ use Rattle.laws.specs.Search.{first, lowest}
 use Rattle.laws.specs.Power.{log2, is_pow2}
 use Rattle.region.specs.Sound.{soundness, region_no}
 use Rattle.region.specs.Overlap.{overlaps}
-use Rattle.region.specs.declared.Judged.TheVariants.{Valid, Short, Unsound, Pair}
-use Rattle.region.specs.List.{pair_of, judged}
+use Rattle.region.specs.List.{Valid, Short, Unsound, Pair, pair_of, judged}
 use Rattle.lent.specs.declared.MpuRegion.{MpuRegion}
 use Rattle.lent.specs.Records.{judged_of}
 

@@ -4,8 +4,7 @@
 --   words ys       == the same list as flat words
 use Rattle.std.specs.Prelude.{List, [], ◌∷◌, ℕ, length, get_or}
 use Rattle.region.specs.declared.Range.{Range}
-use Rattle.region.specs.declared.Judged.{Judged}
-use Rattle.region.specs.List.{judged}
+use Rattle.region.specs.List.{Judged, judged}
 use Rattle.lent.specs.declared.MpuRegion.{MpuRegion}
 
 abbrev pub no_record : MpuRegion

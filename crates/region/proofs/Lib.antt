@@ -1,6 +1,8 @@
 pub mod SoundLaws
 pub mod OverlapLaws
+pub mod AnswerLaws
 pub mod ListLaws
+pub mod FoundLaws
 pub mod NumberLaws
 pub mod UnreadLaws
 pub mod Determined

@@ -12,9 +12,7 @@ use Rattle.laws.proofs.SearchLaws.{lowest_least, least_one, none_exactly}
 use Rattle.laws.proofs.PairLaws.{pair_first, no_pair, first_pair_one}
 use Rattle.laws.proofs.BoolLaws.{pick-ap, holds_unless}
 use Rattle.region.specs.declared.Range.{Range}
-use Rattle.region.specs.declared.Judged.{Judged}
-use Rattle.region.specs.declared.Judged.TheVariants.{Valid, Short, Unsound, Pair}
-use Rattle.region.specs.List.{number_at, unsound, meeting, culprit, pair_of, judged, number_of, places_of, list_no, list_places, AllSound, Says}
+use Rattle.region.specs.List.{Judged, Valid, Short, Unsound, Pair, number_at, unsound, meeting, culprit, pair_of, judged, number_of, places_of, list_no, list_places, AllSound, Says}
 
 module _ (at : ℕ → Range) (have n : ℕ) where
   -- ---- the answer in the numbers of the paper: by how its three tests come out

@@ -12,10 +12,8 @@ use lib.ListN.{length}
 use Rattle.laws.specs.Pick.{pick}
 use Rattle.laws.specs.Power.{is_pow2}
 use Rattle.region.specs.declared.Range.{Range}
-use Rattle.region.specs.declared.Judged.{Judged}
-use Rattle.region.specs.declared.Judged.TheVariants.{Valid, Short, Unsound, Pair}
+use Rattle.region.specs.List.{Judged, Valid, Short, Unsound, Pair, record_at, records, judged, number_of, places_of, list_no, list_places, AllSound, Apart, First, Says}
 use Rattle.region.specs.Sound.{min_region_size, highest_end, soundness, region_no}
-use Rattle.region.specs.List.{record_at, records, judged, number_of, places_of, list_no, list_places, AllSound, Apart, First, Says}
 use Rattle.region.proofs.ListLaws.{number_due, places_due, list_exactly}
 use Rattle.region.proofs.OverlapLaws.{overlaps_exactly, apart_exactly}
 

@@ -7,11 +7,9 @@ use native.Mathlib.Omega.{arith}
 use mathlib.Core.List.{List}
 use lib.ListN.{get_or}
 use Rattle.region.specs.declared.Range.{Range}
-use Rattle.region.specs.declared.Judged.{Judged}
-use Rattle.region.specs.declared.Judged.TheVariants.{Valid, Short, Unsound, Pair}
+use Rattle.region.specs.List.{Judged, Valid, Short, Unsound, Pair, record_at, records, number_at, meeting, judged, Says}
 use Rattle.region.specs.Sound.{region_no}
 use Rattle.region.specs.Overlap.{overlaps}
-use Rattle.region.specs.List.{record_at, records, number_at, meeting, judged, Says}
 use Rattle.region.proofs.ListLaws.{list_exactly}
 
 module _ (at to : ℕ → Range) (have got n : ℕ) (h : n ≤ have) (g : n ≤ got) (same : (i : ℕ) → i < n → at i ≡ to i) where

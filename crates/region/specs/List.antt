@@ -3,18 +3,23 @@
 --   culprit at n         == the lowest unsound record of n, `at` giving each
 --   pair_of at n         == the first pair of n that overlaps, or that there is none
 --   judged at have n     == what is found of n records, `at` giving each, where there are `have` of them
+--   unsound_of at n      == the lowest unsound record of n, or that there is none
 --   number_of, places_of == the number of the paper for an answer, and the indices that it names
+--   judged_by r          == what the answer r of a list check says
+--   pair_found r         == what the answer r of the search for a pair says
+--   fault_no e           == the number of the paper for a fault
 --   list_no, list_places == the number that is due, in the order of the paper, and the indices
 --   AllSound, Apart      == each of n records is sound; no two overlap
 --   First at n i j       == i and j are the first pair that overlaps
 --   Says at have n r     == what the answer r says of the list, as facts
-use Rattle.std.specs.Prelude.{◌≡◌, Bool, false, not, List, [], ◌∷◌, ℕ, ◌+◌, ◌*◌, ◌/◌, ◌≤◌, ◌<◌, ltb, eqb, length, get_or}
+use Rattle.std.specs.Prelude.{◌≡◌, Option, Some, None, Result, Ok, Err, Bool, false, not, List, [], ◌∷◌, ℕ, ◌+◌, ◌*◌, ◌/◌, ◌≤◌, ◌<◌, ltb, eqb, length, get_or}
 use Rattle.laws.specs.Pick.{pick}
 use Rattle.laws.specs.Refuse.{◌⇒◌, refuse}
 use Rattle.laws.specs.Search.{lowest, some, paired, pair_low, pair_high, FirstPair}
 use Rattle.region.specs.declared.Range.{Range}
-use Rattle.region.specs.declared.Judged.{Judged}
-use Rattle.region.specs.declared.Judged.TheVariants.{Valid, Short, Unsound, Pair}
+use Rattle.refusal.specs.Refusal.{number}
+use Rattle.region.specs.declared.Fault.{Fault}
+use Rattle.region.specs.declared.Fault.TheVariants as fault
 use Rattle.region.specs.Sound.{region_no}
 use Rattle.region.specs.Overlap.{overlaps}
 
@@ -33,9 +38,19 @@ unsound at i = not (eqb (number_at at i) 0)
 abbrev pub meeting : (ℕ → Range) → ℕ → ℕ → Bool
 meeting at i j = overlaps (at i) (at j)
 
+-- what a list is found to be: the count is beyond the records, the lowest unsound record with its number, the first pair that overlaps, or valid
+pub data Judged : Type 0 where
+  Valid : Judged
+  Short : Judged
+  Unsound : ℕ → ℕ → Judged
+  Pair : ℕ → ℕ → Judged
+
 -- the lowest unsound record
 abbrev pub culprit : (ℕ → Range) → ℕ → ℕ
 culprit at n = lowest (unsound at) 0 n
+
+unfoldable pub unsound_of : (ℕ → Range) → ℕ → Judged
+unsound_of at n = pick (some (unsound at) 0 n) (Unsound (culprit at n) (number_at at (culprit at n))) Valid
 
 -- all records being sound: the first pair that overlaps, or none
 unfoldable pub pair_of : (ℕ → Range) → ℕ → Judged
@@ -73,6 +88,22 @@ places_of Valid = []
 places_of Short = []
 places_of (Unsound at k) = at ∷ []
 places_of (Pair i j) = i ∷ j ∷ []
+
+-- ---- what the code's answers say
+abbrev pub fault_no : Fault → ℕ
+fault_no fault.Short = 8
+fault_no (fault.Unsound at why) = number why
+fault_no (fault.Pair i j) = 6
+
+abbrev pub judged_by : {X : Type 0} → Result X Fault → Judged
+judged_by (Ok x) = Valid
+judged_by (Err fault.Short) = Short
+judged_by (Err (fault.Unsound at why)) = Unsound at (number why)
+judged_by (Err (fault.Pair i j)) = Pair i j
+
+abbrev pub pair_found : Option (ℕ × ℕ) → Judged
+pair_found None = Valid
+pair_found (Some p) = Pair p.0 p.1
 
 -- ---- what an answer says
 abbrev pub AllSound : (ℕ → Range) → ℕ → Type 0

@@ -11,7 +11,7 @@ use lib.Seq.{get_or-set_same, get_or-set_other}
 use Rattle.table.specs.declared.Table.{Table}
 use Rattle.table.specs.declared.Entry.{Entry}
 use Rattle.table.specs.Numbers.{parts, flat_index}
-use Rattle.table.specs.Table.{entry_at, with_entry, empty_table, slot_entry, entry_answer}
+use Rattle.table.specs.Table.{entry_at, with_entry, empty_table, slot_entry, no_entry, entry_answer}
 use Rattle.table.specs.Whole.{Whole}
 
 -- ---- one place
@@ -62,6 +62,10 @@ module _ (n : ℕ) (t : Table) (p s : ℕ) (e : Entry) (h : s < n) where
   pub slot_other : (q r : ℕ) → r < n → ¬ ((q ≡ p) × (r ≡ s)) → slot_entry n (with_entry t (flat_index n p s) e) q r ≡ slot_entry n t q r
   unfolding slot_entry
   slot_other q r k d = with_other t (flat_index n p s) (flat_index n q r) e (λ x. d (flat_one n q r p s k h x))
+
+-- zeros, not enabled, field by field
+pub blank : (e : Entry) → (e.base ≡ 0) × ((e.size ≡ 0) × ((e.enabled ≡ false) × (e.writable ≡ false))) → e ≡ no_entry
+blank e h = λ k. record { base = h.0 k; size = h.1.0 k; enabled = h.1.1.0 k; writable = h.1.1.1 k }
 
 -- what the public routine answers within both bounds
 pub entry_within : (n : ℕ) (t : Table) (p s : ℕ) → p < parts → s < n → entry_answer n t p s ≡ slot_entry n t p s

@@ -7,23 +7,38 @@
 --   refusals n t p q     == what refuses, in the order of the paper: 1, 9, 2, 3, 4, 5, 6, 7
 --   builder_no n t p q   == the number of the first that holds; 0 where the request is accepted
 --   try_add n t p q      == the number, and the table: with q granted in the first free slot where accepted, else as received
+--   added_of r           == the same, of the code's answer
+--   answered t r         == the same, of an answer that hands back no table where it refuses: t is the one received
 --   Fits, Grants         == what acceptance asks, and what it does, as facts
-use Rattle.std.specs.Prelude.{◌≡◌, Bool, true, false, not, List, [], ◌∷◌, ◌++◌, ℕ, ◌<◌, ltb, eqb}
+use Rattle.std.specs.Prelude.{◌≡◌, Bool, true, false, not, List, [], ◌∷◌, ◌++◌, ℕ, Result, ◌<◌, ltb, eqb}
 use Rattle.laws.specs.Pick.{pick}
 use Rattle.laws.specs.Refuse.{Refusal, ◌⇒◌, refuse}
 use Rattle.laws.specs.Search.{lowest, some}
+use Rattle.refusal.specs.declared.Refusal as paper
+use Rattle.refusal.specs.declared.Refused.{Refused}
+use Rattle.refusal.specs.Refusal.{no_of, why_no, value_or, held_by}
 use Rattle.region.specs.declared.Range.{Range}
 use Rattle.region.specs.Sound.{soundness, region_no}
 use Rattle.region.specs.Overlap.{overlaps}
 use Rattle.table.specs.declared.Table.{Table}
 use Rattle.table.specs.declared.Entry.{Entry}
 use Rattle.table.specs.declared.Request.{Request}
-use Rattle.table.specs.declared.Added.{Added}
 use Rattle.table.specs.Numbers.{parts, flat_index}
 use Rattle.table.specs.Table.{entry_at, with_entry, slot_entry}
 use Rattle.table.specs.Entries.{range_of, is_free, meets}
 use Rattle.table.specs.Lawful.{lawful, Lawful}
 use Rattle.table.specs.Covers.{beyond}
+
+-- the builder's answer: a number, and the table, as received where the number refuses
+pub record Added : Type 0 where
+  pub no : ℕ
+  pub table : Table
+
+abbrev pub added_of : Result Table (Refused Table) → Added
+added_of r = record { no = why_no r; table = held_by r }
+
+abbrev pub answered : Table → Result Table paper.Refusal → Added
+answered t r = record { no = no_of r; table = value_or t r }
 
 abbrev pub wanted : Request → Range
 wanted q = record { base = q.base; size = q.size }

@@ -2,16 +2,26 @@
 --   Has e a              == the entry is enabled, and base <= a < base + size, as facts
 --   covers n t p a       == some enabled entry of the partition has the byte a
 --   cover_answer n t p a == 1 and no for a partition above 3; else 0 beside whether a is covered
-use Rattle.std.specs.Prelude.{◌≡◌, Bool, true, false, not, [], ◌∷◌, ℕ, ◌+◌, ◌≤◌, ◌<◌, ltb}
+--   covered_of r         == the same, of the code's answer
+use Rattle.std.specs.Prelude.{◌≡◌, Bool, true, false, not, [], ◌∷◌, ℕ, Result, ◌+◌, ◌≤◌, ◌<◌, ltb}
 use Rattle.laws.specs.Pick.{pick}
 use Rattle.laws.specs.Refuse.{◌⇒◌, refuse}
 use Rattle.laws.specs.Search.{some}
+use Rattle.refusal.specs.declared.Refusal.{Refusal}
+use Rattle.refusal.specs.Refusal.{no_of, value_or}
 use Rattle.table.specs.declared.Table.{Table}
 use Rattle.table.specs.declared.Entry.{Entry}
-use Rattle.table.specs.declared.Covered.{Covered}
 use Rattle.table.specs.Numbers.{parts}
 use Rattle.table.specs.Table.{slot_entry}
 use Rattle.table.specs.Entries.{covers_byte}
+
+-- whether a byte is covered, beside a refusal's number
+pub record Covered : Type 0 where
+  pub no : ℕ
+  pub yes : Bool
+
+abbrev pub covered_of : Result Bool Refusal → Covered
+covered_of r = record { no = no_of r; yes = value_or false r }
 
 -- a partition above 3
 abbrev pub beyond : ℕ → Bool

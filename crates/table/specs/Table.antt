@@ -1,5 +1,4 @@
 -- The table as four arrays, and its entries.
---   table_of b s e w     == the table of these four arrays
 --   entry_at t i         == what the four arrays hold at place i
 --   with_entry t i e     == the table with e at place i, and every other place as it was
 --   empty_table n        == zero and false in all four arrays, n slots a partition
@@ -7,14 +6,11 @@
 --   no_entry             == zeros, not enabled
 --   entry_answer n t p s == the slot's entry, or no_entry where p or s is out of range
 --   cell_answer n t i    == what stands at place i, counted through all partitions, or no_entry beyond the last
-use Rattle.std.specs.Prelude.{Bool, false, ◌&&◌, List, ℕ, ◌*◌, ltb, get_or, set, replicate}
+use Rattle.std.specs.Prelude.{false, ◌&&◌, ℕ, ◌*◌, ltb, get_or, set, replicate}
 use Rattle.laws.specs.Pick.{pick}
 use Rattle.table.specs.declared.Table.{Table}
 use Rattle.table.specs.declared.Entry.{Entry}
 use Rattle.table.specs.Numbers.{parts, flat_index}
-
-abbrev pub table_of : List ℕ → List ℕ → List Bool → List Bool → Table
-table_of b s e w = record { base = b; size = s; enabled = e; writable = w }
 
 abbrev pub entry_at : Table → ℕ → Entry
 entry_at t i =

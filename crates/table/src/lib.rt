@@ -3,20 +3,22 @@
 
 mod numbers;
 
-ghost use Rattle.std.specs.Prelude.{◌≡◌, ◌&&◌, ◌+◌, ◌<◌, ◌≤◌, ltb, leb};
+ghost use Rattle.std.specs.Prelude.{◌≡◌, Bool, ◌<◌};
 ghost use Rattle.laws.specs.Search.{lowest, some};
 ghost use Rattle.table.specs.Numbers.{parts, slots, cells, slotted};
-ghost use Rattle.table.specs.Table.{with_entry, empty_table, entry_at, slot_entry, no_entry, entry_answer, cell_answer, table_of};
-ghost use Rattle.table.specs.Entries.{range_of, asked, slot_asked};
+ghost use Rattle.table.specs.Table.{with_entry, empty_table, entry_at, slot_entry, entry_answer, cell_answer};
+ghost use Rattle.table.specs.Entries.{range_of, is_unsound, meets, covers_byte, slot_asked, Computes};
 ghost use Rattle.table.specs.Lawful.{clash_at, lawful_part, lawful};
-ghost use Rattle.table.specs.Covers.{cover_answer};
-ghost use Rattle.table.specs.Builder.{try_add};
+ghost use Rattle.table.specs.Covers.{cover_answer, covered_of};
+ghost use Rattle.table.specs.Builder.{wanted, try_add, added_of, answered};
 
-pub use numbers::{CELLS, Part, Parted, Slot, Slotted};
+pub use numbers::{CELLS, Part, Slot};
 use numbers::{PARTS, SLOTS, flat};
+use refusal::{Refusal, Refused};
 use region::Range;
 
 // The four arrays of the source, flat: slot s of partition p lies at 8 x p + s.
+// Stays: document 01 says "zero and false in all four arrays".
 #[derive(Clone, Copy)]
 pub struct Table {
     pub base: [u32; CELLS],
@@ -25,8 +27,8 @@ pub struct Table {
     pub writable: [bool; CELLS],
 }
 
-// What stands at one place of the table.
-#[derive(Clone, Copy)]
+// What stands at one place of the table; by default zeros, not enabled.
+#[derive(Clone, Copy, Default)]
 pub struct Entry {
     pub base: u32,
     pub size: u32,
@@ -42,27 +44,51 @@ pub struct Request {
     pub writable: bool,
 }
 
-// The builder's answer: a number, and the table, as received where the number refuses.
-#[derive(Clone, Copy)]
-pub struct Added {
-    pub no: u32,
-    pub table: Table,
+impl Entry {
+    // Is it enabled, and no sound region?
+    fn is_unsound(self) -> bool
+        ensures { result ≡ is_unsound self }
+    {
+        self.enabled && region::validate_region(self.base, self.size).is_err()
+    }
+
+    // Is it enabled, and does it overlap this range?
+    fn meets(self, r: Range) -> bool
+        ensures { result ≡ meets r self }
+    {
+        self.enabled && region::ranges_meet(r, Range::from(self))
+    }
+
+    // Is it enabled, and base <= a < base + size? No sum is made that could wrap.
+    fn covers(self, a: u32) -> bool
+        ensures { result ≡ covers_byte a self }
+    {
+        self.enabled && self.base <= a && a - self.base < self.size
+    }
 }
 
-// Whether a byte is covered, beside a refusal's number.
-#[derive(Clone, Copy)]
-pub struct Covered {
-    pub no: u32,
-    pub yes: bool,
+// The bytes of an entry.
+impl From<Entry> for Range {
+    ghost from_gives = { λ e r. r ≡ range_of e };
+
+    fn from(e: Entry) -> Range {
+        Range {
+            base: e.base,
+            size: e.size,
+        }
+    }
 }
 
-// What is asked of an entry: is its place free, is it unsound, does it meet a range, does it cover a byte?
-#[derive(Clone, Copy)]
-enum Question {
-    Free,
-    Unsound,
-    Meets(Range),
-    Covers(u32),
+// The bytes that a request asks for.
+impl From<Request> for Range {
+    ghost from_gives = { λ q r. r ≡ wanted q };
+
+    fn from(q: Request) -> Range {
+        Range {
+            base: q.base,
+            size: q.size,
+        }
+    }
 }
 
 impl Table {
@@ -78,311 +104,149 @@ impl Table {
         }
     }
 
-    // Grants a request, in the lowest free slot of its partition, or says why not.
-    pub fn try_add_region(self, part: u32, q: Request) -> Added
-        ensures { result ≡ try_add slots self part q }
+    // Grants a request, in the lowest free slot of its partition, or says why not and hands the table back.
+    // Stays: by value, here and in `covers_addr`: document 01 says "`&self` and `&mut self` on the table become values in and out".
+    pub fn try_add_region(self, part: u32, q: Request) -> Result<Table, Refused<Table>>
+        ensures { added_of result ≡ try_add slots self part q }
     {
-        let Parted::Is(p) = Part::new(part) else {
-            return Added { no: 1, table: self };
-        };
-        if !self.lawful() {
-            return Added { no: 9, table: self };
-        }
-        let no = region::validate_region(q.base, q.size);
-        if no != 0 {
-            return Added { no, table: self };
-        }
-        let wanted = Range {
-            base: q.base,
-            size: q.size,
-        };
-        if self.first_slot(p, Question::Meets(wanted)).found() {
-            return Added { no: 6, table: self };
-        }
-        let Slotted::Is(free) = self.first_slot(p, Question::Free) else {
-            return Added { no: 7, table: self };
-        };
-        Added {
-            no: 0,
-            table: self.with(
-                flat(p, free),
-                Entry {
-                    base: q.base,
-                    size: q.size,
-                    enabled: true,
-                    writable: q.writable,
-                },
-            ),
-        }
+        self.added(part, q)
+            .map_err(|why| Refused { why, held: self })
     }
 
     // Does some enabled entry of the partition contain this byte?
-    pub fn covers_addr(self, part: u32, address: u32) -> Covered
-        ensures { result ≡ cover_answer slots self part address }
+    pub fn covers_addr(self, part: u32, address: u32) -> Result<bool, Refusal>
+        ensures { covered_of result ≡ cover_answer slots self part address }
     {
-        let Parted::Is(p) = Part::new(part) else {
-            return Covered { no: 1, yes: false };
-        };
-        Covered {
-            no: 0,
-            yes: self.first_slot(p, Question::Covers(address)).found(),
-        }
+        let p = Part::new(part).ok_or(Refusal::NoPartition)?;
+        Ok(self.some_slot(p, 0, |e| e.covers(address)))
     }
 
     // Is every enabled entry sound, and do no two of one partition overlap?
-    pub fn lawful(self) -> bool
-        ensures { result ≡ lawful slots self }
+    pub fn lawful(&self) -> bool
+        ensures { result ≡ lawful slots self.now }
     {
-        let mut p = 0;
-        while p < PARTS {
-            if !lawful_part(
-                &self.base,
-                &self.size,
-                &self.enabled,
-                &self.writable,
-                Part::at(p),
-            ) {
-                return false;
-            }
-            p += 1;
-        }
-        true
+        (0..PARTS).all(|p| self.lawful_part(Part::at(p)))
     }
 
     // The entry of a slot; an empty one where the partition or the slot is out of range.
-    pub fn entry(self, p: Part, s: Slot) -> Entry
-        ensures { result ≡ entry_answer slots self p.0 s.0 }
+    pub fn entry(&self, p: Part, s: Slot) -> Entry
+        ensures { result ≡ entry_answer slots self.now p.0 s.0 }
     {
-        entry_of(&self.base, &self.size, &self.enabled, &self.writable, p, s)
+        if PARTS <= p.number() {
+            return Entry::default();
+        }
+        if SLOTS <= s.number() {
+            return Entry::default();
+        }
+        self.peek(p, s)
     }
 
     // What the four arrays hold at a place, counted through all partitions; an empty entry beyond the last place.
-    pub fn cell(self, at: u32) -> Entry
-        ensures { result ≡ cell_answer slots self at }
+    pub fn cell(&self, at: u32) -> Entry
+        ensures { result ≡ cell_answer slots self.now at }
     {
         let i = at as usize;
         if CELLS <= i {
-            return no_entry();
+            return Entry::default();
         }
-        entry_at(&self.base, &self.size, &self.enabled, &self.writable, i)
+        self.entry_at(i)
     }
 
-    // The lowest slot whose entry answers yes, if one does.
-    fn first_slot(self, p: Part, what: Question) -> Slotted
+    // The table with the request granted, or why not.
+    fn added(&self, part: u32, q: Request) -> Result<Table, Refusal>
+        ensures { answered self.now result ≡ try_add slots self.now part q }
+    {
+        let p = Part::new(part).ok_or(Refusal::NoPartition)?;
+        if !self.lawful() {
+            return Err(Refusal::Unlawful);
+        }
+        region::validate_region(q.base, q.size)?;
+        let wanted = Range::from(q);
+        if self.some_slot(p, 0, |e| e.meets(wanted)) {
+            return Err(Refusal::Overlap);
+        }
+        let free = self.first_slot(p, 0, |e| !e.enabled).ok_or(Refusal::Full)?;
+        Ok(self.with(
+            flat(p, free),
+            Entry {
+                base: q.base,
+                size: q.size,
+                enabled: true,
+                writable: q.writable,
+            },
+        ))
+    }
+
+    fn lawful_part(&self, p: Part) -> bool
         requires { p.0 < parts }
-        ensures { result ≡ slotted (lowest (slot_asked slots self p.0 what) 0 slots) }
+        ensures { result ≡ lawful_part slots self.now p.0 }
     {
-        lowest_slot(
-            &self.base,
-            &self.size,
-            &self.enabled,
-            &self.writable,
-            p,
-            what,
-        )
+        !self.some_slot(p, 0, Entry::is_unsound)
+            && !(0..SLOTS).any(|s| self.clashes_at(p, Slot::at(s)))
     }
 
-    fn with(self, i: usize, e: Entry) -> Table
-        requires { i < cells }
-        ensures { result ≡ with_entry self i e }
+    // Is this entry enabled, and does a later one of the partition meet it?
+    fn clashes_at(&self, p: Part, s: Slot) -> bool
+        requires { (p.0 < parts) × (s.0 < slots) }
+        ensures { result ≡ clash_at slots self.now p.0 s.0 }
     {
-        let mut t = self;
+        let e = self.peek(p, s);
+        let r = Range::from(e);
+        e.enabled && self.some_slot(p, s.number() + 1, |later| later.meets(r))
+    }
+
+    // Is there a slot from this one on whose entry passes the test?
+    fn some_slot<F: Fn(Entry) -> bool>(&self, p: Part, from: u32, test: F) -> bool
+        requires within { p.0 < parts }
+        requires callable { F.IsAlwaysCallable test }
+        ensures { (f : Entry → Bool) → Computes (F.post test) f → result ≡ some (slot_asked slots self.now p.0 f) from slots }
+    {
+        self.first_slot(p, from, test).is_some()
+    }
+
+    // The lowest slot from this one on whose entry passes the test, if one does.
+    fn first_slot<F: Fn(Entry) -> bool>(&self, p: Part, from: u32, test: F) -> Option<Slot>
+        requires within { p.0 < parts }
+        requires callable { F.IsAlwaysCallable test }
+        ensures { (f : Entry → Bool) → Computes (F.post test) f → result ≡ slotted (lowest (slot_asked slots self.now p.0 f) from slots) }
+    {
+        for s in from..SLOTS {
+            let slot = Slot::at(s);
+            if test(self.peek(p, slot)) {
+                return Some(slot);
+            }
+        }
+        None
+    }
+
+    fn peek(&self, p: Part, s: Slot) -> Entry
+        requires { (p.0 < parts) × (s.0 < slots) }
+        ensures { result ≡ slot_entry slots self.now p.0 s.0 }
+    {
+        self.entry_at(flat(p, s))
+    }
+
+    fn entry_at(&self, i: usize) -> Entry
+        requires { i < cells }
+        ensures { result ≡ entry_at self.now i }
+    {
+        Entry {
+            base: self.base[i],
+            size: self.size[i],
+            enabled: self.enabled[i],
+            writable: self.writable[i],
+        }
+    }
+
+    fn with(&self, i: usize, e: Entry) -> Table
+        requires { i < cells }
+        ensures { result ≡ with_entry self.now i e }
+    {
+        let mut t = *self;
         t.base[i] = e.base;
         t.size[i] = e.size;
         t.enabled[i] = e.enabled;
         t.writable[i] = e.writable;
         t
-    }
-}
-
-// The entry of a slot, of a table whose four arrays are lent.
-pub fn entry_of<'a>(
-    base: &'a [u32; CELLS],
-    size: &'a [u32; CELLS],
-    enabled: &'a [bool; CELLS],
-    writable: &'a [bool; CELLS],
-    p: Part,
-    s: Slot,
-) -> Entry
-    ensures { result ≡ entry_answer slots (table_of base.now size.now enabled.now writable.now) p.0 s.0 }
-{
-    if PARTS <= p.number() {
-        return no_entry();
-    }
-    if SLOTS <= s.number() {
-        return no_entry();
-    }
-    peek(base, size, enabled, writable, p, s)
-}
-
-// What follows is lent the four arrays: a table by value would be copied, 320 bytes a call.
-fn lawful_part<'a>(
-    base: &'a [u32; CELLS],
-    size: &'a [u32; CELLS],
-    enabled: &'a [bool; CELLS],
-    writable: &'a [bool; CELLS],
-    p: Part,
-) -> bool
-    requires { p.0 < parts }
-    ensures { result ≡ lawful_part slots (table_of base.now size.now enabled.now writable.now) p.0 }
-{
-    if lowest_slot(base, size, enabled, writable, p, Question::Unsound).found() {
-        return false;
-    }
-    !clashes(base, size, enabled, writable, p)
-}
-
-// Does some enabled entry of the partition meet a later one?
-fn clashes<'a>(
-    base: &'a [u32; CELLS],
-    size: &'a [u32; CELLS],
-    enabled: &'a [bool; CELLS],
-    writable: &'a [bool; CELLS],
-    p: Part,
-) -> bool
-    requires { p.0 < parts }
-    ensures { result ≡ some (clash_at slots (table_of base.now size.now enabled.now writable.now) p.0) 0 slots }
-{
-    let mut i = 0;
-    while i < SLOTS {
-        if clashes_at(base, size, enabled, writable, p, Slot::at(i)) {
-            return true;
-        }
-        i += 1;
-    }
-    false
-}
-
-fn clashes_at<'a>(
-    base: &'a [u32; CELLS],
-    size: &'a [u32; CELLS],
-    enabled: &'a [bool; CELLS],
-    writable: &'a [bool; CELLS],
-    p: Part,
-    s: Slot,
-) -> bool
-    requires { (p.0 < parts) × (s.0 < slots) }
-    ensures { result ≡ clash_at slots (table_of base.now size.now enabled.now writable.now) p.0 s.0 }
-{
-    let e = peek(base, size, enabled, writable, p, s);
-    e.enabled && meets_after(base, size, enabled, writable, p, s, range_of(e))
-}
-
-// Does some enabled entry after this slot meet this range? A loop of its own, since `lawful` asks it most.
-fn meets_after<'a>(
-    base: &'a [u32; CELLS],
-    size: &'a [u32; CELLS],
-    enabled: &'a [bool; CELLS],
-    writable: &'a [bool; CELLS],
-    p: Part,
-    after: Slot,
-    r: Range,
-) -> bool
-    requires { (p.0 < parts) × (after.0 < slots) }
-    ensures { result ≡ some (slot_asked slots (table_of base.now size.now enabled.now writable.now) p.0 (Question.Meets r)) (after.0 + 1) slots }
-{
-    let mut s = after.number() + 1;
-    while s < SLOTS {
-        if ask(
-            peek(base, size, enabled, writable, p, Slot::at(s)),
-            Question::Meets(r),
-        ) {
-            return true;
-        }
-        s += 1;
-    }
-    false
-}
-
-// The lowest slot whose entry answers yes, if one does.
-fn lowest_slot<'a>(
-    base: &'a [u32; CELLS],
-    size: &'a [u32; CELLS],
-    enabled: &'a [bool; CELLS],
-    writable: &'a [bool; CELLS],
-    p: Part,
-    what: Question,
-) -> Slotted
-    requires { p.0 < parts }
-    ensures { result ≡ slotted (lowest (slot_asked slots (table_of base.now size.now enabled.now writable.now) p.0 what) 0 slots) }
-{
-    let mut s = 0;
-    while s < SLOTS {
-        let slot = Slot::at(s);
-        if ask(peek(base, size, enabled, writable, p, slot), what) {
-            return Slotted::Is(slot);
-        }
-        s += 1;
-    }
-    Slotted::Beyond
-}
-
-fn peek<'a>(
-    base: &'a [u32; CELLS],
-    size: &'a [u32; CELLS],
-    enabled: &'a [bool; CELLS],
-    writable: &'a [bool; CELLS],
-    p: Part,
-    s: Slot,
-) -> Entry
-    requires { (p.0 < parts) × (s.0 < slots) }
-    ensures { result ≡ slot_entry slots (table_of base.now size.now enabled.now writable.now) p.0 s.0 }
-{
-    entry_at(base, size, enabled, writable, flat(p, s))
-}
-
-fn entry_at<'a>(
-    base: &'a [u32; CELLS],
-    size: &'a [u32; CELLS],
-    enabled: &'a [bool; CELLS],
-    writable: &'a [bool; CELLS],
-    i: usize,
-) -> Entry
-    requires { i < cells }
-    ensures { result ≡ entry_at (table_of base.now size.now enabled.now writable.now) i }
-{
-    Entry {
-        base: base[i],
-        size: size[i],
-        enabled: enabled[i],
-        writable: writable[i],
-    }
-}
-
-fn no_entry() -> Entry
-    ensures { result ≡ no_entry }
-{
-    Entry {
-        base: 0,
-        size: 0,
-        enabled: false,
-        writable: false,
-    }
-}
-
-fn ask(e: Entry, what: Question) -> bool
-    ensures { result ≡ asked what e }
-{
-    match what {
-        Question::Free => !e.enabled,
-        Question::Unsound => e.enabled && region::validate_region(e.base, e.size) != 0,
-        Question::Meets(r) => e.enabled && region::ranges_meet(r, range_of(e)),
-        Question::Covers(a) => e.enabled && contains(e, a),
-    }
-}
-
-// base <= a < base + size, with no sum that could wrap.
-fn contains(e: Entry, a: u32) -> bool
-    ensures { result ≡ leb e.base a && ltb a (e.base + e.size) }
-{
-    e.base <= a && a - e.base < e.size
-}
-
-fn range_of(e: Entry) -> Range
-    ensures { result ≡ range_of e }
-{
-    Range {
-        base: e.base,
-        size: e.size,
     }
 }

@@ -1,7 +1,7 @@
 // A partition's number and a slot's number: each a type of its own, made within its bound by `new` and `at`, read by `number`, joined in `flat`
 // alone. No other file can make one.
 ghost use Rattle.std.specs.Prelude.{◌≡◌, ◌<◌};
-ghost use Rattle.table.specs.Numbers.{parts, slots, flat_index, parted, slotted, found};
+ghost use Rattle.table.specs.Numbers.{parts, slots, flat_index, parted, slotted};
 
 pub const PARTS: u32 = 4;
 
@@ -10,34 +10,20 @@ pub const SLOTS: u32 = 8;
 // The places of a table: a slot of each partition.
 pub const CELLS: usize = 32;
 
+// Stays: two types of one shape, as document 01 says: "two tuple structs over u32 with bounded constructors".
+// Stays: their bound is no invariant, and functions ask for it: `Table::entry` promises an empty entry for any number, and the edit `both_beyond_enabled` gives it one out of range.
 #[derive(Clone, Copy)]
 pub struct Part(u32);
 
 #[derive(Clone, Copy)]
 pub struct Slot(u32);
 
-#[derive(Clone, Copy)]
-pub enum Parted {
-    Is(Part),
-    Beyond,
-}
-
-#[derive(Clone, Copy)]
-pub enum Slotted {
-    Is(Slot),
-    Beyond,
-}
-
 impl Part {
     // The partition of this number, if there is one.
-    pub fn new(n: u32) -> Parted
+    pub fn new(n: u32) -> Option<Part>
         ensures { result ≡ parted n }
     {
-        if n < PARTS {
-            Parted::Is(Part(n))
-        } else {
-            Parted::Beyond
-        }
+        (n < PARTS).then_some(Part(n))
     }
 
     pub(crate) fn at(n: u32) -> Part
@@ -56,14 +42,10 @@ impl Part {
 
 impl Slot {
     // The slot of this number, if there is one.
-    pub fn new(n: u32) -> Slotted
+    pub fn new(n: u32) -> Option<Slot>
         ensures { result ≡ slotted n }
     {
-        if n < SLOTS {
-            Slotted::Is(Slot(n))
-        } else {
-            Slotted::Beyond
-        }
+        (n < SLOTS).then_some(Slot(n))
     }
 
     pub(crate) fn at(n: u32) -> Slot
@@ -77,18 +59,6 @@ impl Slot {
         ensures { result ≡ self.0 }
     {
         self.0
-    }
-}
-
-impl Slotted {
-    // Was there a slot?
-    pub(crate) fn found(self) -> bool
-        ensures { result ≡ found self }
-    {
-        match self {
-            Slotted::Is(_) => true,
-            Slotted::Beyond => false,
-        }
     }
 }
 

@@ -1,18 +1,14 @@
 -- Record i meets none of the records before j, and no pair has its first record before i.
 use mathlib.Core.Path.{◌≡◌}
-use Prim.Native.Nat.{◌+◌, ◌-◌, ◌≤◌}
+use Prim.Native.Nat.{◌+◌}
 use Rattle.laws.specs.Search.{lowest, paired, pair_low}
-use Rattle.region.specs.List.{record_at, meeting}
+use Rattle.region.specs.List.{meeting}
 use Rattle.region.proofs.first_pair.Given as goal
 
 abbrev pub invariant-loop-j : goal.invariant-loop-j
-invariant-loop-j l = (l.j ≤ l.n) × (lowest (meeting (record_at l.words) l.i) (l.i + 1) l.n ≡ lowest (meeting (record_at l.words) l.i) l.j l.n)
+invariant-loop-j g l =
+    let meets = meeting (g.L.RegionList.range_at l.list) l.i in lowest meets (l.i + 1) l.n ≡ lowest meets l.j l.n
 
-abbrev pub decreases-loop-j : goal.decreases-loop-j
-decreases-loop-j l = l.n - l.j
-
-abbrev pub invariant-pairs : goal.invariant-pairs
-invariant-pairs l = (l.i ≤ l.n) × (pair_low (meeting (record_at l.words)) l.n ≡ lowest (paired (meeting (record_at l.words)) l.n) l.i l.n)
-
-abbrev pub decreases-pairs : goal.decreases-pairs
-decreases-pairs l = l.n - l.i
+abbrev pub invariant-loop-i : goal.invariant-loop-i
+invariant-loop-i g l =
+    let meets = meeting (g.L.RegionList.range_at l.list) in pair_low meets l.n ≡ lowest (paired meets l.n) l.i l.n

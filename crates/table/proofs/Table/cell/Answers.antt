@@ -1,11 +1,12 @@
--- Beyond the last place an empty entry; the four arrays that are lent are the table. Assumes nothing.
+-- Beyond the last place an empty entry, else what the four arrays hold there. Assumes nothing.
 use borrow.Author.Tests.{lt-ltb, le-ltb}
 use Rattle.table.specs.Table.{cell_answer}
+use Rattle.table.proofs.EntryLaws.{blank}
 use Rattle.table.proofs.Table.cell.Goals as goal
 
 pub returns-then-i-ge-CELLS : goal.returns-then-i-ge-CELLS
 unfolding cell_answer
-returns-then-i-ge-CELLS c = rw (le-ltb _ _ c.if-i-ge-CELLS.true) c.no_entry.ensures
+returns-then-i-ge-CELLS c = rw (le-ltb _ _ c.if-i-ge-CELLS.true) (blank _ c.default.ensures)
 
 pub returns : goal.returns
 unfolding cell_answer
