@@ -10,17 +10,17 @@ use borrow.Author.Tests.{le-ltb, ne_eqb}
 use lib.Dec.{eqb}
 use lib.ListN.{length, get_or, drop, get_or-append, get_or-eq_default}
 use lib.Seq.{get_or-take, get_or-drop, get_or-append-add}
+use Rattle.std.specs.Prelude.{Ok, Err}
 use Rattle.laws.specs.Pick.{pick}
 use Rattle.laws.specs.Listed.{listed}
 use Rattle.laws.proofs.ListedLaws.{length-listed, get_or-listed}
-use Rattle.region.specs.declared.Judged.{Judged}
-use Rattle.region.specs.declared.Judged.TheVariants.{Valid, Short, Unsound, Pair}
-use Rattle.region.specs.List.{record_at}
+use Rattle.refusal.specs.declared.Refusal.{Refusal}
+use Rattle.region.specs.List.{Judged, Valid, Short, Unsound, Pair, record_at}
 use Rattle.device.specs.declared.Pair.{Pair as Slot}
 use Rattle.device.specs.declared.Mpu.{Mpu}
 use Rattle.device.specs.declared.Access.{Access}
 use Rattle.device.specs.declared.Kind.TheVariants.{Read, Write}
-use Rattle.device.specs.declared.Answer.TheVariants.{Private, Unchecked, Undefined, Permitted, Denied, Refused}
+use Rattle.device.specs.declared.Answer.TheVariants.{Private, Unchecked, Undefined, Permitted, Denied}
 use Rattle.device.specs.Registers.{slot_count, allowed}
 use Rattle.device.specs.Decision.{decision, decision_no, number_of}
 use Rattle.device.proofs.ControlLaws.{Allowed, allowed_exactly}
@@ -41,8 +41,8 @@ word_beyond : (ws : List ℕ) (i : ℕ) → length ws ≤ i → word_at ws i ≡
 word_beyond ws i h = get_or-eq_default ws 0 h
 
 -- ---- decisions
-cases_told : map case_no (Private ∷ Unchecked ∷ Undefined ∷ Permitted ∷ Denied ∷ Refused ∷ []) ≡ 1 ∷ 2 ∷ 3 ∷ 4 ∷ 5 ∷ 6 ∷ []
-cases_told = refl
+cases_told : (e : Refusal) → map case_no (Ok Private ∷ Ok Unchecked ∷ Ok Undefined ∷ Ok Permitted ∷ Ok Denied ∷ Err e ∷ []) ≡ 1 ∷ 2 ∷ 3 ∷ 4 ∷ 5 ∷ 6 ∷ []
+cases_told e = refl
 
 abbrev pair : ℕ → ℕ → Slot
 pair a b = record { rbar = a; rasr = b }

@@ -8,19 +8,16 @@
 --   found_at ws n i       == what list i is found to be
 --   found_word_at ws n k  == word k of the answers about the lists, three for each
 use Rattle.std.specs.Prelude.{List, ℕ, zero, suc, ◌/◌, ◌%◌, length}
-use Rattle.region.specs.declared.Judged.{Judged}
-use Rattle.region.specs.List.{record_at, records, judged}
+use Rattle.region.specs.List.{Judged, record_at, records, judged}
 use Rattle.device.specs.declared.Mpu.{Mpu}
 use Rattle.device.specs.Registers.{slot_count}
 use Rattle.device.specs.Decision.{decision}
 use Rattle.table.specs.declared.Table.{Table}
-use Rattle.table.specs.declared.Added.{Added}
 use Rattle.table.specs.Numbers.{slots}
 use Rattle.table.specs.Table.{empty_table}
-use Rattle.table.specs.Builder.{try_add}
+use Rattle.table.specs.Builder.{Added, try_add}
 use Rattle.switch.specs.declared.Switch.{Switch}
-use Rattle.switch.specs.declared.Started.{Started}
-use Rattle.switch.specs.Switch.{no_log, fresh, whole}
+use Rattle.switch.specs.Switch.{Started, no_log, fresh, whole}
 use Rattle.exports.specs.Words.{word_at, mpu_of, access_at, case_no, part_at, request_at, list_at, found_word}
 
 abbrev pub case_at : List ℕ → List ℕ → ℕ → ℕ

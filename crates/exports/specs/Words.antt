@@ -10,11 +10,11 @@
 --   found_word j k  == word k of a list's answer, of 3 words: the number of the paper, then the places that it names; 0 where there is none
 --   found_words f d == the words d with an answer, by f, in each three that are whole
 --   switch_word s k == word k of a switch, of 47 words: its MPU's 17, then for each write of its log 3 (write_word w k: register, RBAR, RASR); 0 beyond
-use Rattle.std.specs.Prelude.{not, List, ◌∷◌, ◌++◌, ℕ, ◌+◌, ◌*◌, ◌-◌, ◌/◌, ◌%◌, ltb, eqb, length, get_or, take, drop}
+use Rattle.std.specs.Prelude.{not, Result, Ok, Err, List, ◌∷◌, ◌++◌, ℕ, ◌+◌, ◌*◌, ◌-◌, ◌/◌, ◌%◌, ltb, eqb, length, get_or, take, drop}
 use Rattle.laws.specs.Pick.{pick}
 use Rattle.laws.specs.Listed.{listed}
-use Rattle.region.specs.declared.Judged.{Judged}
-use Rattle.region.specs.List.{words_each, number_of, places_of}
+use Rattle.refusal.specs.declared.Refusal.{Refusal}
+use Rattle.region.specs.List.{Judged, words_each, number_of, places_of}
 use Rattle.device.specs.declared.Pair.{Pair as Slot}
 use Rattle.device.specs.declared.Mpu.{Mpu}
 use Rattle.device.specs.declared.Write.{Write}
@@ -22,7 +22,7 @@ use Rattle.device.specs.declared.Kind.{Kind}
 use Rattle.device.specs.declared.Kind.TheVariants.{Read, Write as Writing}
 use Rattle.device.specs.declared.Access.{Access}
 use Rattle.device.specs.declared.Answer.{Answer}
-use Rattle.device.specs.declared.Answer.TheVariants.{Private, Unchecked, Undefined, Permitted, Denied, Refused}
+use Rattle.device.specs.declared.Answer.TheVariants.{Private, Unchecked, Undefined, Permitted, Denied}
 use Rattle.device.specs.Registers.{slot_count, slot_at, allowed}
 use Rattle.table.specs.declared.Request.{Request}
 use Rattle.sequence.specs.Sequence.{triple}
@@ -47,13 +47,13 @@ access_at ws i =
 abbrev pub held_no : Mpu → ℕ
 held_no m = pick (allowed m.control) 0 12
 
-abbrev pub case_no : Answer → ℕ
-case_no Private = 1
-case_no Unchecked = 2
-case_no Undefined = 3
-case_no Permitted = 4
-case_no Denied = 5
-case_no Refused = 6
+abbrev pub case_no : Result Answer Refusal → ℕ
+case_no (Ok Private) = 1
+case_no (Ok Unchecked) = 2
+case_no (Ok Undefined) = 3
+case_no (Ok Permitted) = 4
+case_no (Ok Denied) = 5
+case_no (Err e) = 6
 
 abbrev pub part_at : List ℕ → ℕ → ℕ
 part_at ws i = word_at ws (4 * i)

@@ -5,6 +5,7 @@ use mathlib.Core.Path.{◌≡◌, refl, sym, ◌∙◌, ap}
 use mathlib.Core.Bool.{Bool, true, false, ◌&&◌}
 use Prim.Native.Nat.{ℕ, ◌<◌, zero-le}
 use native.Mathlib.Omega.{arith}
+use Rattle.std.specs.Prelude.{Ok}
 use Rattle.laws.specs.Search.{some}
 use Rattle.laws.proofs.BoolLaws.{both, unless, fails_unless}
 use Rattle.laws.proofs.SearchLaws.{some_exactly, none_exactly}
@@ -53,10 +54,10 @@ module _ (n : ℕ) (t : Table) (p : ℕ) (lawful : Lawful n t p) (m : Mpu) (load
   sound k h = (meet k h).good
 
   -- no entry has the byte: the background, which control 1 hasn't
-  denied : private_bus a.address ≡ false → ((s : ℕ) → s < n → has s ≡ false) → decision n m a ≡ Denied
+  denied : private_bus a.address ≡ false → ((s : ℕ) → s < n → has s ≡ false) → decision n m a ≡ Ok Denied
   denied out none =
       decided_unmatched n m a held out on sound (λ k h. (meet k h).matching a.address ∙ none k h)
-      ∙ background_else m.control a.privileged (λ w. omega (arith, w.1, load.control))
+      ∙ ap Ok (background_else m.control a.privileged (λ w. omega (arith, w.1, load.control)))
 
   none_granted : ((s : ℕ) → s < n → has s ≡ false) → grants_byte n t p a ≡ false
   unfolding grants_byte
@@ -71,9 +72,9 @@ module _ (n : ℕ) (t : Table) (p : ℕ) (lawful : Lawful n t p) (m : Mpu) (load
     decides =
         record { within = h; matching = (meet k h).matching a.address ∙ c; none = λ j u l. (meet j l).matching a.address ∙ fails_unless (λ x. omega (arith, alone j l x, u)) }
 
-    decided : private_bus a.address ≡ false → decision n m a ≡ answered (allows a.kind (entry k))
+    decided : private_bus a.address ≡ false → decision n m a ≡ Ok (answered (allows a.kind (entry k)))
     decided out =
-        decided_by_row n m a held out on sound decides ∙ (meet k h).row ((byte_exactly a.address (entry k)).0 c).on a.privileged a.kind
+        decided_by_row n m a held out on sound decides ∙ ap Ok ((meet k h).row ((byte_exactly a.address (entry k)).0 c).on a.privileged a.kind)
 
     granted : grants_byte n t p a ≡ allows a.kind (entry k)
     unfolding grants_byte
@@ -84,18 +85,18 @@ module _ (n : ℕ) (t : Table) (p : ℕ) (lawful : Lawful n t p) (m : Mpu) (load
         by false e = (none_exactly (λ s. has s && allows a.kind (entry s)) zero-le).1 (λ s l u. unless.1 (λ x. ap (λ (j : ℕ). allows a.kind (entry j)) (sym (alone s u x)) ∙ e))
 
   -- ---- the map
-  outside : private_bus a.address ≡ false → decision n m a ≡ answered (grants_byte n t p a)
+  outside : private_bus a.address ≡ false → decision n m a ≡ Ok (answered (grants_byte n t p a))
   outside out = by (some has 0 n) refl
     where
-      by : (b : Bool) → some has 0 n ≡ b → decision n m a ≡ answered (grants_byte n t p a)
+      by : (b : Bool) → some has 0 n ≡ b → decision n m a ≡ Ok (answered (grants_byte n t p a))
       by true e =
           let w = (some_exactly has zero-le).0 e in
-          decided w.0 w.2 w.3 out ∙ ap answered (sym (granted w.0 w.2 w.3))
+          decided w.0 w.2 w.3 out ∙ ap (λ (b : Bool). Ok (answered b)) (sym (granted w.0 w.2 w.3))
       by false e =
           let none : (s : ℕ) → s < n → has s ≡ false = λ s h. (none_exactly has {i = 0} {m = n} zero-le).0 e s zero-le h in
-          denied out none ∙ ap answered (sym (none_granted none))
+          denied out none ∙ ap (λ (b : Bool). Ok (answered b)) (sym (none_granted none))
 
-  on_the_bus : private_bus a.address ≡ true → decision n m a ≡ Private
+  on_the_bus : private_bus a.address ≡ true → decision n m a ≡ Ok Private
   unfolding decision
   on_the_bus e = rw (held, e)
 

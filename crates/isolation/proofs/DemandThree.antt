@@ -8,7 +8,9 @@ use native.Mathlib.Decide.{dec_lt}
 use native.Mathlib.Omega.{arith}
 use borrow.Author.Tests.{lt-ltb}
 use lib.ListN.{length, get_or}
+use Rattle.std.specs.Prelude.{Result}
 use Rattle.laws.proofs.ListedLaws.{length-listed}
+use Rattle.refusal.specs.declared.Refusal.{Refusal}
 use Rattle.table.specs.declared.Table.{Table}
 use Rattle.table.specs.Numbers.{parts}
 use Rattle.table.specs.Table.{slot_entry}
@@ -29,9 +31,7 @@ use Rattle.sequence.specs.Sequence.{triple, off, on, slot_write, writes}
 use Rattle.sequence.proofs.WritesLaws.{middle, writes_at, writes_length, writes_switch, sequence_0}
 use Rattle.sequence.proofs.SoundWrites.{writes_sound}
 use Rattle.switch.specs.declared.Switch.{Switch}
-use Rattle.switch.specs.declared.Started.{Started}
-use Rattle.switch.specs.declared.Stepped.{Stepped}
-use Rattle.switch.specs.Switch.{fresh, due, started, stepped}
+use Rattle.switch.specs.Switch.{Started, Stepped, fresh, due, started, stepped}
 use Rattle.switch.proofs.StartNo.{start_0, start_accepted}
 use Rattle.switch.proofs.StepLaws.{step_finished, step_wrote}
 use Rattle.order.specs.Play.{Event, play, counted}
@@ -94,7 +94,7 @@ module _ (n : ℕ) (few : n ≤ ctrl) (t : Table) (p : ℕ) (lawful : Lawful n t
         ∙ run_play (put n) (decision n) (triple 0 0 0) (writes n t p) m es
         ∙ ap (λ (ws : List Write). play (put n) (decision n) m ws es) (writes_switch n t p)
         ∙ play_cut (put n) (decision n) Off dark (off_dark n) m off (middle n t p) on (off_off n few m held) (middle_quiet n few t p lawful) es
-        ∙ ap₂ (λ (new : Access → Answer) (k : ℕ). cut (decision n m) dark new k es) (fun_ext (λ a. loaded_answers n t p lawful _ (loaded n few t p lawful m whole held) a)) (length-listed (λ (s : ℕ). slot_write s (slot_entry n t p s)) 0 n)
+        ∙ ap₂ (λ (new : Access → Result Answer Refusal) (k : ℕ). cut (decision n m) dark new k es) (fun_ext (λ a. loaded_answers n t p lawful _ (loaded n few t p lawful m whole held) a)) (length-listed (λ (s : ℕ). slot_write s (slot_entry n t p s)) 0 n)
 
 -- ---- demand 3, of every table that the builder made, stated of what starting and stepping answer
 module _ (n : ℕ) (few : n ≤ ctrl) (t : Table) (built : Built n t) (p : ℕ) (part : p < parts) (m : Mpu) (whole : length m.slots ≡ n) (held : allowed m.control ≡ true) where
@@ -111,7 +111,7 @@ module _ (n : ℕ) (few : n ≤ ctrl) (t : Table) (built : Built n t) (p : ℕ) 
   by_steps es = demand_3 es ∙ cut_counted (decision n m) dark (partition_map n t p) n es
 
   -- no mixed map ever answers: after any number of steps one of the three maps, whole, answers all that is asked
-  pub no_mixed_map : (at : ℕ → Access → Answer) × ((k : ℕ) → OneOf (decision n m) dark (partition_map n t p) (at k)) × ((es : List (Event Access)) → asked n m t p es ≡ counted at 0 es)
+  pub no_mixed_map : (at : ℕ → Access → Result Answer Refusal) × ((k : ℕ) → OneOf (decision n m) dark (partition_map n t p) (at k)) × ((es : List (Event Access)) → asked n m t p es ≡ counted at 0 es)
   no_mixed_map = (in_force (decision n m) dark (partition_map n t p) n, in_force_one (decision n m) dark (partition_map n t p) n, by_steps)
 
   -- from the last write on it is the partition's map, however many steps are still made

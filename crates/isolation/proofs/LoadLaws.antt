@@ -21,7 +21,7 @@ use Rattle.device.proofs.RefusedWriteLaws.{held_allowed}
 use Rattle.device.proofs.StoredLaws.{accepted_stored, slot_stored, slots_stay, control_stays, slots_length, control_stored}
 use Rattle.laws.specs.Pick.{pick}
 use Rattle.fields.specs.Fields.{rasr}
-use Rattle.device.specs.declared.Written.{Written}
+use Rattle.device.specs.RegisterWrite.{Written}
 use Rattle.laws.proofs.ListedLaws.{length-listed, get_or-listed}
 use Rattle.order.specs.Play.{after}
 use Rattle.order.specs.Off.{Quiet}

@@ -9,7 +9,9 @@ use native.Mathlib.Decide.{dec_lt}
 use native.Mathlib.Omega.{arith}
 use borrow.Author.Tests.{le-leb, lt-leb}
 use lib.ListN.{length, get_or}
+use Rattle.std.specs.Prelude.{Result, Ok}
 use Rattle.laws.proofs.BoolLaws.{both}
+use Rattle.refusal.specs.declared.Refusal.{Refusal}
 use Rattle.table.specs.declared.Table.{Table}
 use Rattle.table.specs.Table.{slot_entry}
 use Rattle.table.specs.Covers.{Has}
@@ -58,8 +60,8 @@ module _ (n : ℕ) (t : Table) (p s x : ℕ) where
   )
 
 -- ---- an access a, with the events es before it and gs after it (r stands for no answer)
-module _ (n : ℕ) (few : n ≤ 4294967295) (t : Table) (built : Built n t) (p : ℕ) (part : p < 4) (m : Mpu) (whole : length m.slots ≡ n) (held : Allowed m.control) (es gs : List (Event Access)) (a : Access) (r : Answer) where
-  abbrev told : Answer
+module _ (n : ℕ) (few : n ≤ 4294967295) (t : Table) (built : Built n t) (p : ℕ) (part : p < 4) (m : Mpu) (whole : length m.slots ≡ n) (held : Allowed m.control) (es gs : List (Event Access)) (a : Access) (r : Result Answer Refusal) where
+  abbrev told : Result Answer Refusal
   told = get_or (asked n m t p (es ++ ask a ∷ gs)) (length (accesses es)) r
 
   may : allowed m.control ≡ true
@@ -74,20 +76,20 @@ module _ (n : ℕ) (few : n ≤ 4294967295) (t : Table) (built : Built n t) (p :
   before_the_first e = told_by ∙ ap (λ (k : ℕ). in_force (decision n m) dark (partition_map n t p) n k a) e
 
   dark_told : 0 < writes es → writes es < n + 2 → told ≡ dark a
-  dark_told h k = told_by ∙ ap (λ (f : Access → Answer). f a) (in_force_dark (decision n m) dark (partition_map n t p) n (writes es) h k)
+  dark_told h k = told_by ∙ ap (λ (f : Access → Result Answer Refusal). f a) (in_force_dark (decision n m) dark (partition_map n t p) n (writes es) h k)
 
   new_told : n + 2 ≤ writes es → told ≡ partition_map n t p a
-  new_told h = told_by ∙ ap (λ (f : Access → Answer). f a) (in_force_new (decision n m) dark (partition_map n t p) n (writes es) h)
+  new_told h = told_by ∙ ap (λ (f : Access → Result Answer Refusal). f a) (in_force_new (decision n m) dark (partition_map n t p) n (writes es) h)
 
   module _ (out : Outside a.address) where
     -- after the first and before the last: unchecked
-    pub under_way : 0 < writes es → writes es < n + 2 → told ≡ Unchecked
+    pub under_way : 0 < writes es → writes es < n + 2 → told ≡ Ok Unchecked
     unfolding dark
     under_way h k = dark_told h k ∙ rw (off_bus a.address out)
 
     module _ (done : n + 2 ≤ writes es) where
       -- after the last a read is permitted exactly if an enabled entry of that partition covers the byte
-      pub read_after : a.kind ≡ Read → (told ≡ Permitted) ↔ ((s : ℕ) × Covers n t p s a.address)
+      pub read_after : a.kind ≡ Read → (told ≡ Ok Permitted) ↔ ((s : ℕ) × Covers n t p s a.address)
       read_after k =
           rw (new_told done) (
             λ e. let w = (read_exactly n t p a (off_bus a.address out) k).0 e in (w.0, (covers_has n t p w.0 a.address).0 (w.1, w.2)),
@@ -95,7 +97,7 @@ module _ (n : ℕ) (few : n ≤ 4294967295) (t : Table) (built : Built n t) (p :
           )
 
       -- a write exactly if that entry is also writable
-      pub write_after : a.kind ≡ Write → (told ≡ Permitted) ↔ ((s : ℕ) × Covers n t p s a.address × (get_or t.writable (n * p + s) false ≡ true))
+      pub write_after : a.kind ≡ Write → (told ≡ Ok Permitted) ↔ ((s : ℕ) × Covers n t p s a.address × (get_or t.writable (n * p + s) false ≡ true))
       unfolding slot_entry
       write_after k =
           rw (new_told done) (
@@ -104,18 +106,18 @@ module _ (n : ℕ) (few : n ≤ 4294967295) (t : Table) (built : Built n t) (p :
           )
 
       -- and any other access is denied
-      pub other_denied : ¬ (told ≡ Permitted) → told ≡ Denied
+      pub other_denied : ¬ (told ≡ Ok Permitted) → told ≡ Ok Denied
       other_denied h = new_told done ∙ else_denied n t p a (off_bus a.address out) (λ e. h (new_told done ∙ e))
 
   -- private on the private bus, whatever the state
-  pub private_always : 0xE000_0000 ≤ a.address → a.address ≤ 0xE00F_FFFF → told ≡ Private
+  pub private_always : 0xE000_0000 ≤ a.address → a.address ≤ 0xE00F_FFFF → told ≡ Ok Private
   unfolding dark
   private_always h k = by (dec_lt 0 (writes es)) (dec_lt (writes es) (n + 2))
     where
       bus : private_bus a.address ≡ true
       bus = on_bus a.address h k
 
-      by : Dec (0 < writes es) → Dec (writes es < n + 2) → told ≡ Private
+      by : Dec (0 < writes es) → Dec (writes es < n + 2) → told ≡ Ok Private
       by (no z) d = before_the_first (omega arith) ∙ (private_exactly n m a may).1 (h, k)
       by (yes z) (yes l) = dark_told z l ∙ rw bus
       by (yes z) (no l) = new_told (omega arith) ∙ map_private n t p a bus

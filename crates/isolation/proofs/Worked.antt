@@ -4,11 +4,13 @@ use mathlib.Core.Path.{◌≡◌, refl}
 use mathlib.Core.List.{List, [], ◌∷◌, ◌++◌}
 use Prim.Native.Nat.{ℕ, zero, suc}
 use lib.ListN.{replicate}
+use Rattle.std.specs.Prelude.{Result, Ok}
 use Rattle.laws.specs.Search.{first, lowest, highest}
 use Rattle.laws.specs.Power.{log2, is_pow2}
 use Rattle.region.specs.Sound.{soundness, region_no}
 use Rattle.region.specs.Overlap.{overlaps}
 use Rattle.fields.specs.Fields.{size_field, rasr}
+use Rattle.refusal.specs.declared.Refusal.{Refusal}
 use Rattle.table.specs.Numbers.{slots}
 use Rattle.table.specs.Table.{slot_entry}
 use Rattle.table.specs.Lawful.{clash_at, lawful_part, lawful}
@@ -27,18 +29,18 @@ use Rattle.isolation.specs.Maps.{asked}
 use Rattle.isolation.specs.Worked.{zeros, at_cuts, ours, afterwards, data2, code2, more2, two, live, asks, behind}
 
 -- the answers to `asks` at k cuts under way
-abbrev under_way : ℕ → List Answer
+abbrev under_way : ℕ → List (Result Answer Refusal)
 under_way zero = []
-under_way (suc k) = Unchecked ∷ Unchecked ∷ Unchecked ∷ Unchecked ∷ Private ∷ under_way k
+under_way (suc k) = Ok Unchecked ∷ Ok Unchecked ∷ Ok Unchecked ∷ Ok Unchecked ∷ Ok Private ∷ under_way k
 
 made_by_the_builder : Built slots example
 made_by_the_builder = add (add empty 1 data1) 1 code1
 
-at_every_cut : asked slots zeros example 1 (at_cuts 10 ours) ≡ replicate 10 Unchecked ++ (Permitted ∷ [])
+at_every_cut : asked slots zeros example 1 (at_cuts 10 ours) ≡ replicate 10 (Ok Unchecked) ++ (Ok Permitted ∷ [])
 unfolding started start_no stepped write_register write_no triple_no triple_refusals stored allowed decision judged bad matches row_answer writes write_at slot_write rasr size_field try_add builder_no refusals full first_free overlaps_any lawful lawful_part clash_at slot_entry soundness region_no overlaps is_pow2 log2 lowest highest first
 at_every_cut = refl
 
-three_bytes : asked slots zeros example 1 afterwards ≡ Permitted ∷ Denied ∷ Denied ∷ Permitted ∷ Denied ∷ []
+three_bytes : asked slots zeros example 1 afterwards ≡ Ok Permitted ∷ Ok Denied ∷ Ok Denied ∷ Ok Permitted ∷ Ok Denied ∷ []
 unfolding started start_no stepped write_register write_no triple_no triple_refusals stored allowed decision judged bad matches row_answer writes write_at slot_write rasr size_field try_add builder_no refusals full first_free overlaps_any lawful lawful_part clash_at slot_entry soundness region_no overlaps is_pow2 log2 lowest highest first
 three_bytes = refl
 
@@ -50,11 +52,11 @@ switched_there : (whole slots zeros two 2).switch.mpu ≡ live 1
 unfolding whole steps started start_no stepped write_register write_no triple_no triple_refusals stored allowed writes write_at slot_write rasr size_field try_add builder_no refusals full first_free overlaps_any lawful lawful_part clash_at slot_entry soundness region_no overlaps is_pow2 log2 lowest highest first
 switched_there = refl
 
-from_a_live_map : asked slots (live 1) two 1 (at_cuts 10 asks) ≡ (Permitted ∷ Permitted ∷ Denied ∷ Denied ∷ Private ∷ []) ++ under_way 9 ++ (Denied ∷ Denied ∷ Permitted ∷ Permitted ∷ Private ∷ [])
+from_a_live_map : asked slots (live 1) two 1 (at_cuts 10 asks) ≡ (Ok Permitted ∷ Ok Permitted ∷ Ok Denied ∷ Ok Denied ∷ Ok Private ∷ []) ++ under_way 9 ++ (Ok Denied ∷ Ok Denied ∷ Ok Permitted ∷ Ok Permitted ∷ Ok Private ∷ [])
 unfolding started start_no stepped write_register write_no triple_no triple_refusals stored allowed decision judged bad matches row_answer writes write_at slot_write rasr size_field try_add builder_no refusals full first_free overlaps_any lawful lawful_part clash_at slot_entry soundness region_no overlaps is_pow2 log2 lowest highest first
 from_a_live_map = refl
 
 -- under control 5 privileged code has the background map before, and hasn't after
-from_the_background : asked slots (live 5) two 1 (at_cuts 10 behind) ≡ (Permitted ∷ []) ++ replicate 9 Unchecked ++ (Denied ∷ [])
+from_the_background : asked slots (live 5) two 1 (at_cuts 10 behind) ≡ (Ok Permitted ∷ []) ++ replicate 9 (Ok Unchecked) ++ (Ok Denied ∷ [])
 unfolding started start_no stepped write_register write_no triple_no triple_refusals stored allowed decision judged bad matches row_answer writes write_at slot_write rasr size_field try_add builder_no refusals full first_free overlaps_any lawful lawful_part clash_at slot_entry soundness region_no overlaps is_pow2 log2 lowest highest first
 from_the_background = refl

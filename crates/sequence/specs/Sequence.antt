@@ -5,20 +5,27 @@
 --   writes n t p      == all of them
 --   sequence_no n t p == what refuses: 1, 9
 --   sequence n t p    == the number, beside the writes, or zeros where it refuses
-use Rattle.std.specs.Prelude.{not, List, [], ◌∷◌, ℕ, ◌+◌, ◌-◌, leb, eqb, replicate}
+--   sequence_of r     == what an answer says in the paper's words: the number, and its ten writes, which are zeros where it is refused
+use Rattle.std.specs.Prelude.{not, List, [], ◌∷◌, ℕ, ◌+◌, ◌-◌, leb, eqb, replicate, Result}
 use Rattle.laws.specs.Pick.{pick}
 use Rattle.laws.specs.Refuse.{◌⇒◌, refuse}
 use Rattle.laws.specs.Listed.{listed}
+use Rattle.refusal.specs.declared.Refusal.{Refusal}
+use Rattle.refusal.specs.Refusal.{no_of, value_or}
 use Rattle.fields.specs.declared.Attributes.{Attributes}
 use Rattle.fields.specs.Fields.{rasr}
 use Rattle.table.specs.declared.Table.{Table}
 use Rattle.table.specs.declared.Entry.{Entry}
+use Rattle.table.specs.Numbers.{slots}
 use Rattle.table.specs.Table.{slot_entry}
 use Rattle.table.specs.Lawful.{lawful}
 use Rattle.table.specs.Covers.{beyond}
 use Rattle.device.specs.declared.Write.{Write}
 use Rattle.device.specs.Registers.{ctrl}
-use Rattle.sequence.specs.declared.Sequence.{Sequence}
+
+pub record Sequence : Type 0 where
+  pub no : ℕ
+  pub writes : List Write
 
 abbrev pub triple : ℕ → ℕ → ℕ → Write
 triple r b a = record { rnr = r; rbar = b; rasr = a }
@@ -47,3 +54,6 @@ sequence_no n t p = refuse ((beyond p ⇒ 1) ∷ (not (lawful n t) ⇒ 9) ∷ []
 unfoldable pub sequence : ℕ → Table → ℕ → Sequence
 sequence n t p =
     record { no = sequence_no n t p; writes = pick (eqb (sequence_no n t p) 0) (writes n t p) (replicate (n + 2) (triple 0 0 0)) }
+
+abbrev pub sequence_of : Result (List Write) Refusal → Sequence
+sequence_of r = record { no = no_of r; writes = value_or (replicate (slots + 2) (triple 0 0 0)) r }

@@ -19,8 +19,7 @@ use Rattle.device.specs.Registers.{allowed}
 use Rattle.device.specs.RegisterWrite.{triple_no}
 use Rattle.device.proofs.ControlLaws.{Allowed, allowed_exactly}
 use Rattle.device.proofs.RefusedWriteLaws.{ten_exactly, eleven_exactly, twelve_exactly, zero_exactly}
-use Rattle.switch.specs.declared.Applied.{Applied}
-use Rattle.switch.specs.Applied.{is_bad, first_bad, applied}
+use Rattle.switch.specs.Applied.{Applied, is_bad, first_bad, applied}
 use Rattle.switch.proofs.StartNo.{zeros}
 use Rattle.switch.proofs.AppliedLaws.{applied_12, applied_bad, applied_all}
 

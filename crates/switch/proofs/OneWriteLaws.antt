@@ -10,16 +10,14 @@ use lib.Seq.{get_or-set_same, get_or-set_other}
 use Rattle.laws.proofs.BoolLaws.{fails_exactly}
 use Rattle.device.specs.declared.Mpu.{Mpu}
 use Rattle.device.specs.declared.Write.{Write}
-use Rattle.device.specs.declared.Written.{Written}
+use Rattle.device.specs.RegisterWrite.{Written}
 use Rattle.device.specs.Registers.{slot_at, allowed}
 use Rattle.device.specs.RegisterWrite.{triple_no, write_no, stored, write_register}
 use Rattle.device.proofs.ControlLaws.{Allowed, allowed_exactly}
 use Rattle.device.proofs.RefusedWriteLaws.{held_allowed, number_exactly, ten_exactly, eleven_exactly, twelve_exactly}
 use Rattle.device.proofs.StoredLaws.{accepted_stored, slot_stored, slots_stay, control_stays, slots_length, control_stored, allowed_kept}
 use Rattle.switch.specs.declared.Switch.{Switch}
-use Rattle.switch.specs.declared.Did.TheVariants.{Wrote, Refused}
-use Rattle.switch.specs.declared.Stepped.{Stepped}
-use Rattle.switch.specs.Switch.{stepped}
+use Rattle.switch.specs.Switch.{Wrote, Refused, Stepped, stepped}
 use Rattle.switch.proofs.StepLaws.{step_wrote, step_refused}
 use Rattle.switch.proofs.HandLaws.{at, Sound, Bad10, Bad11, Bad12, sound_exactly}
 

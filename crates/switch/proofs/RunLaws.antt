@@ -1,34 +1,36 @@
 -- Where a switch stands after k steps, and after all of them: k writes made, in order, k places of the log filled with them, the others zeros, position k.
 -- Each step takes one such state to the next, since none of the writes is refused. Assumes nothing.
 use mathlib.Core.Path.{◌≡◌, refl, sym, ◌∙◌, ap}
-use mathlib.Core.Bool.{true}
+use mathlib.Core.Bool.{true, not}
 use mathlib.Core.List.{List, [], ◌∷◌, ◌++◌, append_assoc, append-nil}
 use Prim.Native.Nat.{ℕ, zero, suc, ◌+◌, ◌≤◌, ◌<◌}
 use native.Mathlib.Nat.{add-zero, add-suc, suc-add, zero-add}
 use native.Mathlib.Numerals.{add-one}
 use native.Mathlib.Omega.{arith}
-use borrow.Author.Tests.{ltb-true, not-false}
+use borrow.Author.Tests.{ltb-true, lt-ltb, not-false}
 use lib.ListN.{length, get_or, set, take, drop, length-replicate, drop_of_length-le}
 use lib.Seq.{take-suc, drop-cons, set_at, length-take-le, take_all}
+use Rattle.std.specs.Prelude.{Result, Err}
+use Rattle.refusal.specs.declared.Refused.{Refused}
+use Rattle.refusal.proofs.NumberLaws.{number_some}
 use Rattle.device.specs.declared.Mpu.{Mpu}
 use Rattle.device.specs.declared.Write.{Write}
 use Rattle.device.specs.Registers.{ctrl, allowed}
 use Rattle.device.specs.RegisterWrite.{triple_no, write_register}
 use Rattle.device.proofs.RefusedWriteLaws.{held_allowed}
+use Rattle.device.proofs.ControlLaws.{allowed_exactly}
 use Rattle.device.proofs.StoredLaws.{allowed_kept}
 use Rattle.table.specs.declared.Table.{Table}
-use Rattle.table.specs.Numbers.{parts}
+use Rattle.table.specs.Numbers.{parts, slots}
 use Rattle.table.proofs.LawfulLaws.{lawful_exactly}
 use Rattle.sequence.specs.Sequence.{triple, writes, sequence}
 use Rattle.sequence.proofs.WritesLaws.{writes_at, writes_length, sequence_0}
 use Rattle.sequence.proofs.SoundWrites.{writes_sound}
 use Rattle.switch.specs.declared.Switch.{Switch}
-use Rattle.switch.specs.declared.Started.{Started}
-use Rattle.switch.specs.declared.Stepped.{Stepped}
-use Rattle.switch.specs.declared.Did.TheVariants.{Wrote}
-use Rattle.switch.specs.Switch.{fresh, advanced, stepped, steps, whole}
+use Rattle.switch.specs.Switch.{Started, Stepped, Wrote, fresh, start_no, started, advanced, stepped, steps, whole, started_of}
 use Rattle.switch.specs.Applied.{write_all}
-use Rattle.switch.proofs.StartNo.{zeros, start_0, start_accepted, whole_accepted}
+use Rattle.switch.proofs.StartNo.{zeros, start_0, start_accepted, whole_refused, whole_accepted}
+use Rattle.switch.proofs.NumberLaws.{start_none}
 use Rattle.switch.proofs.StepLaws.{step_wrote}
 
 -- ---- one more write at the end
@@ -93,3 +95,18 @@ whole_state n few m t p e held =
     ∙ ap (λ (r : Started). record { no = 0; switch = steps n (n + 2) r.switch }) from
     ∙ ap (λ (s : Switch). record { no = 0; switch = s })
     (all_state n few m held (writes n t p) (writes_length n t p) (λ i h. ap (triple_no n) (writes_at n t p i (triple 0 0 0) h) ∙ writes_sound n few t p ((lawful_exactly n t).0 w.1 p part) i h))
+
+-- ---- the whole, by what its start answered
+pub whole_err : (m : Mpu) (t : Table) (p : ℕ) (r : Result Switch (Refused Switch)) (e : Refused Switch) → r ≡ Err e → started_of (Err e) ≡ started slots m t p → started_of r ≡ whole slots m t p
+whole_err m t p r e q s =
+    let no = ap (λ (x : Started). x.no) s in
+    ap started_of q ∙ s ∙ sym (whole_refused slots m t p (λ z. number_some e.why (no ∙ z)))
+
+pub whole_ok : (m : Mpu) (t : Table) (p : ℕ) (s : Switch) → record { no = 0; switch = s } ≡ started slots m t p → record { no = 0; switch = record { mpu = write_all slots m s.writes; writes = s.writes; position = 10; log = s.writes } } ≡ whole slots m t p
+unfolding started
+whole_ok m t p s h =
+    let quiet : start_no slots m t p ≡ 0 = sym (ap (λ (x : Started). x.no) h) in
+    let q = (start_none slots m t p).0 quiet in
+    let same : s.writes ≡ writes slots t p = ap (λ (x : Started). x.switch.writes) (h ∙ start_accepted slots m t p quiet) in
+    (λ i. record { no = 0; switch = record { mpu = write_all slots m (same i); writes = same i; position = 10; log = same i } })
+    ∙ sym (whole_state slots (omega arith) m t p ((sequence_0 slots t p).1 (ap not (lt-ltb _ _ q.0), q.1)) ((allowed_exactly _).1 q.2))

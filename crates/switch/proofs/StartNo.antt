@@ -1,5 +1,5 @@
 -- The number of a start, test by test, and its answer, in numbers. The first two refusals are the sequence's own. Assumes nothing.
-use mathlib.Core.Path.{◌≡◌, refl}
+use mathlib.Core.Path.{◌≡◌, refl, ◌∙◌, ap}
 use mathlib.Core.Bool.{true, false, not}
 use mathlib.Core.List.{List, [], ◌∷◌}
 use Prim.Native.Nat.{ℕ, ◌+◌}
@@ -9,14 +9,17 @@ use lib.ListN.{replicate}
 use Rattle.laws.specs.Pick.{pick}
 use Rattle.laws.specs.Refuse.{◌⇒◌, refuse}
 use Rattle.laws.proofs.RefuseLaws.{refuse-append}
+use Rattle.std.specs.Prelude.{Result, Err}
+use Rattle.refusal.specs.declared.Refusal.{Refusal}
+use Rattle.refusal.proofs.NumberLaws.{number_some}
 use Rattle.device.specs.declared.Mpu.{Mpu}
 use Rattle.device.specs.declared.Write.{Write}
 use Rattle.device.specs.Registers.{allowed}
 use Rattle.table.specs.declared.Table.{Table}
 use Rattle.table.specs.Lawful.{lawful}
 use Rattle.table.specs.Covers.{beyond}
-use Rattle.sequence.specs.Sequence.{writes, sequence_no, sequence}
-use Rattle.switch.specs.Switch.{start_no, started, steps, whole}
+use Rattle.sequence.specs.Sequence.{Sequence, writes, sequence_no, sequence, sequence_of}
+use Rattle.switch.specs.Switch.{start_no, sent, started, steps, whole}
 
 -- n + 2 triples of zeros
 abbrev pub zeros : ℕ → List Write
@@ -40,6 +43,23 @@ module _ (n : ℕ) (m : Mpu) (t : Table) (p : ℕ) where
 
   pub start_0 : (sequence n t p).no ≡ 0 → allowed m.control ≡ true → start_no n m t p ≡ 0
   start_0 e c = rw (after_sequence, e, c)
+
+  -- ---- what a switch is to write: the sequence where it is refused, 12, or the sequence
+  sent_refused : ¬ ((sequence n t p).no ≡ 0) → sequence n t p ≡ sent n m t p
+  unfolding sequence
+  sent_refused h = rw (start_sequence h, ne_eqb (sequence_no n t p) 0 h)
+
+  pub sent_err : (r : Result (List Write) Refusal) (e : Refusal) → r ≡ Err e → sequence_of (Err e) ≡ sequence n t p → sequence_of r ≡ sent n m t p
+  sent_err r e q s =
+      let no = ap (λ (x : Sequence). x.no) s in
+      ap sequence_of q ∙ s ∙ sent_refused (λ z. number_some e (no ∙ z))
+
+  pub sent_12 : (sequence n t p).no ≡ 0 → allowed m.control ≡ false → record { no = 12; writes = zeros n } ≡ sent n m t p
+  sent_12 e c = rw (start_12 e c)
+
+  pub sent_0 : (sequence n t p).no ≡ 0 → allowed m.control ≡ true → sequence n t p ≡ sent n m t p
+  unfolding sequence
+  sent_0 e c = rw (start_0 e c, e)
 
   pub start_accepted : start_no n m t p ≡ 0 → started n m t p ≡ record { no = 0; switch = record { mpu = m; writes = writes n t p; position = 0; log = zeros n } }
   unfolding started

@@ -7,9 +7,7 @@ use lib.Dec.{leb, eqb}
 use Rattle.laws.specs.Pick.{pick}
 use Rattle.device.specs.RegisterWrite.{write_register}
 use Rattle.switch.specs.declared.Switch.{Switch}
-use Rattle.switch.specs.declared.Did.TheVariants.{Wrote, Finished, Refused}
-use Rattle.switch.specs.declared.Stepped.{Stepped}
-use Rattle.switch.specs.Switch.{due, advanced, stepped, step_no, step_due}
+use Rattle.switch.specs.Switch.{Wrote, Finished, Refused, Stepped, due, advanced, stepped, step_no, step_due}
 
 module _ (n : ℕ) (s : Switch) where
   pub step_finished : n + 2 ≤ s.position → stepped n s ≡ record { did = Finished; switch = s }

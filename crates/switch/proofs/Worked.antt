@@ -14,9 +14,7 @@ use Rattle.device.specs.RegisterWrite.{triple_refusals, triple_no, write_no, sto
 use Rattle.sequence.specs.Sequence.{triple}
 use Rattle.sequence.specs.Worked.{ten_writes}
 use Rattle.switch.specs.declared.Switch.{Switch}
-use Rattle.switch.specs.declared.Did.{Did}
-use Rattle.switch.specs.declared.Did.TheVariants.{Wrote, Finished, Refused}
-use Rattle.switch.specs.Switch.{fresh, stepped, steps, step_no}
+use Rattle.switch.specs.Switch.{Did, Wrote, Finished, Refused, fresh, stepped, steps, step_no}
 use Rattle.switch.specs.Applied.{applied_no, applied}
 
 -- an MPU of zeros, and one with two pairs in it, under a control value

@@ -1,16 +1,20 @@
 // A switch to a partition: stepwise and whole, with a log of what was written. From mpu_switch.rs.
 #![tactic(auto)]
 
-ghost use Rattle.std.specs.Prelude.{◌≡◌, List, ◌≤◌, length};
+ghost use Rattle.std.specs.Prelude.{◌≡◌};
+ghost use Rattle.device.specs.RegisterWrite.{refused_no};
 ghost use Rattle.table.specs.Numbers.{slots};
-ghost use Rattle.switch.specs.Switch.{no_log, fresh, started, stepped, step_no, step_due, whole};
-ghost use Rattle.switch.specs.Applied.{first_bad, write_all, applied};
+ghost use Rattle.sequence.specs.Sequence.{sequence_of};
+ghost use Rattle.switch.specs.Switch.{no_log, sent, fresh, started, stepped, step_no, step_due, whole, started_of, stepped_of};
+ghost use Rattle.switch.specs.Applied.{bad_no, applied_no, write_all, applied, applied_of};
 
 use device::{Mpu, Write};
+use refusal::{Refusal, Refused, settled};
 use sequence::WRITES;
 use table::Table;
 
 // A switch under way: the MPU, the ten triples, how many of them were written, and what was.
+// Stays: document 01 names the form of `position` beside `log`, "a position and a log of ten places", and "The log's length is the position".
 #[derive(Clone, Copy)]
 pub struct Switch {
     pub mpu: Mpu,
@@ -19,186 +23,126 @@ pub struct Switch {
     pub log: [Write; WRITES],
 }
 
-// A switch beside a number. LOOK AT THE NUMBER: nothing in a switch says that its start was refused; it holds zeros and can be stepped like any other.
+// What one step did, with the switch after it.
 #[derive(Clone, Copy)]
-pub struct Started {
-    pub no: u32,
-    pub switch: Switch,
+pub enum Progress {
+    Wrote(Switch),
+    Finished(Switch),
 }
 
-// What one step did.
+// The MPU after ten triples, and what was written.
 #[derive(Clone, Copy)]
-pub enum Did {
-    Wrote,
-    Finished,
-    Refused(u32),
-}
-
-#[derive(Clone, Copy)]
-pub struct Stepped {
-    pub did: Did,
-    pub switch: Switch,
-}
-
-// Ten triples applied: the number, the MPU after, and what was written.
-#[derive(Clone, Copy)]
-pub struct Applied {
-    pub no: u32,
+pub struct Logged {
     pub mpu: Mpu,
     pub log: [Write; WRITES],
 }
 
-// Begin a switch of this MPU to a partition: nothing is written yet.
-pub fn start(m: Mpu, t: Table, part: u32) -> Started
-    ensures { result ≡ started slots m t part }
+// A switch of this MPU that has written nothing and has nothing to write: zeros.
+pub fn idle(m: Mpu) -> Switch
+    ensures { result ≡ fresh slots m (no_log slots) }
 {
-    let s = sequence::program_partition(t, part);
-    if s.no != 0 {
-        return Started {
-            no: s.no,
-            switch: begin(m, no_log()),
-        };
-    }
-    if !device::is_allowed(m.control) {
-        return Started {
-            no: 12,
-            switch: begin(m, no_log()),
-        };
-    }
-    let writes = s.writes;
-    Started {
-        no: 0,
-        switch: begin(m, writes),
+    let none = [Write::default(); WRITES];
+    Switch {
+        mpu: m,
+        writes: none,
+        position: 0,
+        log: none,
     }
 }
 
+// Begin a switch of this MPU to a partition: nothing is written yet. A refusal hands back a switch of this MPU that holds zeros.
+#[tactic(auto, unfolding(crate::specs::Switch::started))]
+pub fn start(m: Mpu, t: Table, part: u32) -> Result<Switch, Refused<Switch>>
+    ensures { started_of result ≡ started slots m t part }
+{
+    let writes = writes_for(m, t, part).map_err(|why| Refused { why, held: idle(m) })?;
+    Ok(Switch { writes, ..idle(m) })
+}
+
 // Make the next write of a switch, and only that.
-pub fn step(s: Switch) -> Stepped
-    ensures answer { result ≡ stepped slots s }
-    ensures number { step_no result.did ≡ step_due slots s }
+#[tactic(auto, unfolding(crate::specs::Switch::stepped, crate::specs::Switch::step_due))]
+pub fn step(s: Switch) -> Result<Progress, Refused<Switch>>
+    ensures answer { stepped_of result ≡ stepped slots s }
+    ensures number { step_no (stepped_of result).did ≡ step_due slots s }
 {
     let at = s.position as usize;
     if WRITES <= at {
-        return Stepped {
-            did: Did::Finished,
-            switch: s,
-        };
+        return Ok(Progress::Finished(s));
     }
     let w = s.writes[at];
-    let done = device::write_register(s.mpu, w);
-    if done.no != 0 {
-        return Stepped {
-            did: Did::Refused(done.no),
-            switch: s,
-        };
-    }
-    let mpu = done.mpu;
+    let mpu = device::write_register(s.mpu, w).map_err(|e| Refused {
+        why: e.why,
+        held: s,
+    })?;
     let mut next = s;
     next.mpu = mpu;
-    next.position = s.position + 1;
+    next.position += 1;
     next.log[at] = w;
-    Stepped {
-        did: Did::Wrote,
-        switch: next,
-    }
+    Ok(Progress::Wrote(next))
 }
 
 // Switch this MPU to a partition: start, and all ten steps. No step of a switch that was started is refused, so the ten writes are made at once, and
 // each is logged: a switch is not copied for each step.
-pub fn switch_to_partition(m: Mpu, t: Table, part: u32) -> Started
-    ensures { result ≡ whole slots m t part }
+#[tactic(auto, using(crate::proofs::RunLaws::whole_err, crate::proofs::RunLaws::whole_ok))]
+pub fn switch_to_partition(m: Mpu, t: Table, part: u32) -> Result<Switch, Refused<Switch>>
+    ensures { started_of result ≡ whole slots m t part }
 {
-    let b = start(m, t, part);
-    if b.no != 0 {
-        return b;
-    }
-    let s = b.switch;
-    let writes = s.writes;
-    let mpu = write_all(m, writes);
-    Started {
-        no: 0,
-        switch: Switch {
-            mpu,
-            writes,
-            position: WRITES as u32,
-            log: writes,
-        },
-    }
+    let s = start(m, t, part)?;
+    Ok(Switch {
+        mpu: write_all(m, &s.writes),
+        writes: s.writes,
+        position: WRITES as u32,
+        log: s.writes,
+    })
 }
 
 // Write ten triples that a hand made, if none of them is bad.
-pub fn apply_program(m: Mpu, ws: [Write; WRITES]) -> Applied
-    ensures { result ≡ applied slots m ws }
+#[tactic(auto, unfolding(crate::specs::Applied::applied))]
+pub fn apply_program(m: Mpu, ws: [Write; WRITES]) -> Result<Logged, Refused<Mpu>>
+    ensures { applied_of result ≡ applied slots m ws }
+{
+    match refused_program(&m, &ws) {
+        Some(why) => Err(Refused { why, held: m }),
+        None => Ok(Logged {
+            mpu: write_all(m, &ws),
+            log: ws,
+        }),
+    }
+}
+
+// The writes that switch this MPU to a partition, if it may take them.
+#[tactic(auto, using(crate::proofs::StartNo::sent_err, crate::proofs::StartNo::sent_12, crate::proofs::StartNo::sent_0))]
+fn writes_for(m: Mpu, t: Table, part: u32) -> Result<[Write; WRITES], Refusal>
+    ensures { sequence_of result ≡ sent slots m t part }
+{
+    let writes = sequence::program_partition(t, part)?;
+    if !device::is_allowed(m.control) {
+        return Err(Refusal::BadControl);
+    }
+    Ok(writes)
+}
+
+// Why are triples made by hand refused? The held control comes first, and then the first bad triple.
+#[tactic(auto, unfolding(crate::specs::Applied::applied_no))]
+fn refused_program(m: &Mpu, ws: &[Write; WRITES]) -> Option<Refusal>
+    ensures { refused_no result ≡ applied_no slots m.now ws.now }
 {
     if !device::is_allowed(m.control) {
-        return Applied {
-            no: 12,
-            mpu: m,
-            log: no_log(),
-        };
+        return Some(Refusal::BadControl);
     }
-    let bad = first_bad(ws);
-    if bad < WRITES {
-        return Applied {
-            no: device::refused_write(ws[bad]),
-            mpu: m,
-            log: no_log(),
-        };
-    }
-    Applied {
-        no: 0,
-        mpu: write_all(m, ws),
-        log: ws,
-    }
+    first_bad(ws)
 }
 
-fn begin(m: Mpu, writes: [Write; WRITES]) -> Switch
-    ensures { result ≡ fresh slots m writes }
+// Why would the first bad triple be refused?
+fn first_bad(ws: &[Write; WRITES]) -> Option<Refusal>
+    ensures { refused_no result ≡ bad_no slots ws.now }
 {
-    let log = no_log();
-    Switch {
-        mpu: m,
-        writes,
-        position: 0,
-        log,
-    }
+    ws.iter().find_map(|w| device::refused_write(*w))
 }
 
-fn no_log() -> [Write; WRITES]
-    ensures { result ≡ no_log slots }
+fn write_all(m: Mpu, ws: &[Write; WRITES]) -> Mpu
+    ensures { result ≡ write_all slots m ws.now }
 {
-    let w = Write {
-        rnr: 0,
-        rbar: 0,
-        rasr: 0,
-    };
-    [w; WRITES]
-}
-
-// The first triple that would be refused; 10 where none would.
-fn first_bad(ws: [Write; WRITES]) -> usize
-    ensures { result ≡ first_bad slots ws }
-{
-    let mut i = 0;
-    while i < WRITES {
-        if device::refused_write(ws[i]) != 0 {
-            return i;
-        }
-        i += 1;
-    }
-    i
-}
-
-fn write_all(m: Mpu, ws: [Write; WRITES]) -> Mpu
-    ensures { result ≡ write_all slots m ws }
-{
-    let mut now = m;
-    let mut i = 0;
-    while i < WRITES {
-        let done = device::write_register(now, ws[i]);
-        let next = done.mpu;
-        now = next;
-        i += 1;
-    }
-    now
+    ws.iter()
+        .fold(m, |now, w| settled(device::write_register(now, *w)))
 }

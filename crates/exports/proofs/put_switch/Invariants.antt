@@ -1,11 +1,7 @@
-use Prim.Native.Nat.{◌-◌}
-use lib.ListN.{length}
+-- The slice has the words so far.
 use Rattle.exports.specs.Words.{switch_word}
 use Rattle.exports.proofs.FilledLaws.{Filled}
 use Rattle.exports.proofs.put_switch.Given as goal
 
 abbrev pub invariant-loop-k : goal.invariant-loop-k
 invariant-loop-k l = Filled (switch_word l.s) l.initial.out l.out l.k
-
-abbrev pub decreases-loop-k : goal.decreases-loop-k
-decreases-loop-k l = length l.initial.out - l.k

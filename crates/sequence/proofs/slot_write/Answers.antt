@@ -1,17 +1,19 @@
--- A sound entry's RASR is not refused, so its value is the one that the paper states. Assumes nothing.
-use mathlib.Core.Path.{ap, ◌∙◌}
-use Rattle.fields.specs.declared.Field.{Field}
-use Rattle.fields.proofs.RasrLaws.{rasr_accepted, size_of_sound}
-use Rattle.sequence.specs.Sequence.{triple, attributes, slot_write}
+-- RASR of a sound entry is there, and it is the value that the paper states. Assumes nothing.
+use mathlib.Core.Path.{◌≡◌}
+use borrow.Author.Rules.{rules}
+use borrow.Author.Tests.{not-false}
+use Rattle.fields.specs.Fields.{rasr}
+use Rattle.sequence.specs.Sequence.{attributes, slot_write}
+use Rattle.sequence.proofs.SoundWrites.{rasr_given}
 use Rattle.sequence.proofs.slot_write.Goals as goal
 
-pub returns-then-e : goal.returns-then-e
-unfolding slot_write
-returns-then-e c =
-    let on = c.if-e.true in
-    rw (on, c.number-rnr.ensures)
-    (ap (λ (f : Field). triple c.args.s.0 c.args.e.base f.value) (c.rasr_for.ensures ∙ rasr_accepted (attributes c.args.e) (size_of_sound c.args.e.base c.args.e.size (c.requires on))))
+pub unwrap-requires : goal.unwrap-requires
+unwrap-requires c =
+    let there = rasr_given c.rasr_for.result c.args.e c.if-not-e.false c.requires c.rasr_for.ensures in search (rules, there)
 
-pub returns-else-e : goal.returns-else-e
+pub returns : goal.returns
 unfolding slot_write
-returns-else-e c = rw (c.if-e.false, c.number-rnr.ensures)
+returns c =
+    let there = rasr_given c.rasr_for.result c.args.e c.if-not-e.false c.requires c.rasr_for.ensures in
+    let value : c.unwrap.result ≡ rasr (attributes c.args.e) = cc in
+    rw (not-false _ c.if-not-e.false, c.number-rnr.ensures, value)

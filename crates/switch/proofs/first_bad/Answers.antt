@@ -1,18 +1,16 @@
--- The whole search is what is left of it: every triple before i is sound. Assumes nothing.
-use mathlib.Core.Path.{sym, ◌∙◌, ap}
-use mathlib.Core.Bool.{not}
+-- The search stops at the first triple that has a number, and ends where none has one. Assumes nothing.
+use mathlib.Core.Path.{◌≡◌}
+use Prim.Native.Nat.{ℕ, ◌<◌}
 use borrow.Author.Rules.{rules}
-use borrow.Author.Tests.{eq-eqb, ne_eqb}
-use Rattle.laws.proofs.SearchLaws.{lowest_here, lowest_next, lowest_end}
+use Rattle.std.specs.Prelude.{MatchOption}
+use Rattle.refusal.specs.Refusal.{number}
+use Rattle.table.specs.Numbers.{slots}
+use Rattle.switch.specs.Applied.{number_at}
+use Rattle.switch.proofs.AppliedLaws.{bad_found}
 use Rattle.switch.proofs.first_bad.Goals as goal
 
-pub returns-then-refused_write-ne0 : goal.returns-then-refused_write-ne0
-returns-then-refused_write-ne0 c =
-    sym (c.loop-i.invariant.1 ∙ lowest_here _ c.loop-i-test.true (ap not (ne_eqb _ _ (rw c.refused_write.ensures at c.if-refused_write-ne0.true))))
-
-pub loop-i-preserved : goal.loop-i-preserved
-loop-i-preserved c =
-    (search rules, c.loop-i.invariant.1 ∙ lowest_next _ c.loop-i-test.true (ap not (eq-eqb _ _ (rw c.refused_write.ensures at c.if-refused_write-ne0.false))))
-
 pub returns : goal.returns
-returns c = sym (c.loop-i.invariant.1 ∙ lowest_end _ c.loop-i-test.false)
+returns c =
+    let ws = c.args.ws.now in
+    let found : MatchOption c.find_map.result ((k : ℕ) → k < 10 → number_at slots ws k ≡ 0) (λ e. (i : ℕ) × (i < 10) × (number_at slots ws i ≡ number e) × ((k : ℕ) → k < i → number_at slots ws k ≡ 0)) = search rules in
+    bad_found slots ws c.find_map.result found

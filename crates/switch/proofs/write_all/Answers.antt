@@ -1,27 +1,15 @@
--- What the writes that are left make of the MPU as it is now is what all of them make of the one received. Assumes nothing.
-use mathlib.Core.Path.{refl, sym, ◌∙◌, ap}
-use Prim.Native.Nat.{◌+◌}
-use native.Mathlib.Omega.{arith}
-use borrow.Author.Rules.{rules}
-use lib.ListN.{drop}
-use Rattle.device.specs.declared.Written.{Written}
+-- Each turn of the fold makes its triple's register write, so all of them make what the definition does, going down the triples. Assumes nothing.
+use mathlib.Core.Path.{◌∙◌}
+use Rattle.std.proofs.Common.{rules}
+use Rattle.std.proofs.lemmas.Iterator.{YieldsList-from_slice}
+use Rattle.std.proofs.lemmas.Iterator.Consumers.{fold_from_yields_List}
+use Rattle.device.specs.RegisterWrite.{write_register}
 use Rattle.table.specs.Numbers.{slots}
-use Rattle.switch.specs.Applied.{write_all}
-use Rattle.switch.proofs.AppliedLaws.{write_next, write_end}
+use Rattle.switch.proofs.AppliedLaws.{write_all_fold}
 use Rattle.switch.proofs.write_all.Goals as goal
-
-pub loop-i-preserved : goal.loop-i-preserved
-loop-i-preserved c =
-    let ws = c.args.ws in (
-      search rules,
-      c.loop-i.invariant.1,
-      c.loop-i.invariant.2 ∙ write_next slots c.loop-i.now ws c.loop-i.i (omega (arith, c.loop-i.invariant.1, c.loop-i-test.true))
-          ∙ ap (λ (w : Written). write_all slots w.mpu (drop (c.loop-i.i + 1) ws)) (sym c.write_register-done.ensures),
-    )
 
 pub returns : goal.returns
 returns c =
-    sym (c.loop-i.invariant.2 ∙ write_end slots c.loop-i.now c.args.ws c.loop-i.i (omega (arith, c.loop-i.invariant.1, c.loop-i-test.false)))
-
-pub loop-i-init : goal.loop-i-init
-loop-i-init c = (search rules, search rules, refl)
+    let ws = c.args.ws.now in
+    fold_from_yields_List _ (λ u w. (write_register slots u w).mpu) c.args.m c.fold.result c.fold.ensures.ran (YieldsList-from_slice ws cc) (λ u w v q k. search rules)
+    ∙ write_all_fold slots c.args.m ws
