@@ -1,4 +1,6 @@
+pub mod AmongLaws
 pub mod Determined
+pub mod GivenLaws
 pub mod LineLaws
 pub mod MadeLaws
 pub mod ReadingLaws

@@ -14,6 +14,7 @@ use Rattle.laws.proofs.SearchLaws.{lowest_least}
 use Rattle.laws.proofs.TestLaws.{le_exactly}
 use Rattle.device.specs.declared.Kind.TheVariants as kind
 use Rattle.sequence.specs.Sequence.{triple}
+use Rattle.std.proofs.Common.{None}
 use Rattle.text.specs.Ascii.{ascii}
 use Rattle.text.specs.Digits.{run}
 use Rattle.text.specs.Read.{number_at, newline}
@@ -115,7 +116,7 @@ known =
     ∷ []
 
 -- a line that is not empty, no comment, no list and no apply
-pub other_bad : (line : List ℕ) → ¬ (length line ≡ 0) → ¬ (get_or line 0 0 ≡ 35) → is_list line ≡ false → is_apply line ≡ false → (first_of line 0 known).found ≡ false → command_of line ≡ Bad
+pub other_bad : (line : List ℕ) → ¬ (length line ≡ 0) → ¬ (get_or line 0 0 ≡ 35) → is_list line ≡ false → is_apply line ≡ false → first_of line 0 known ≡ None → command_of line ≡ Bad
 unfolding command_of
 other_bad line some mark l p none = rw (ne_eqb (length line) 0 some, ne_eqb (get_or line 0 0) 35 mark, l, p) (meant_none line 0 rows none)
 

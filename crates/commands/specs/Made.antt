@@ -1,12 +1,11 @@
--- The rows as the code has them, by number.
+-- The rows by number, as `read_any` of form numbers them.
 --   forms rows       == the forms of the rows
 --   made k rows at v == the command of row `at` with the numbers v, the first row being counted k
 use Rattle.std.specs.Prelude.{List, [], ◌∷◌, ℕ, ◌+◌, eqb}
 use Rattle.laws.specs.Pick.{pick}
-use Rattle.commands.specs.declared.Numbers.{Numbers}
 use Rattle.commands.specs.declared.Command.{Command}
 use Rattle.commands.specs.declared.Command.TheVariants.{Bad}
-use Rattle.commands.specs.Command.{Row}
+use Rattle.commands.specs.Command.{Row, Numbers}
 
 abbrev pub forms : List Row → List (List ℕ)
 forms [] = []

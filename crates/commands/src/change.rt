@@ -1,17 +1,14 @@
 // What a command does to a table and a switch.
-ghost use Rattle.std.specs.Prelude.{◌≡◌};
-ghost use Rattle.table.specs.Numbers.{slots};
-ghost use Rattle.table.specs.Builder.{try_add};
-ghost use Rattle.commands.specs.declared.ToTable.TheVariants.{Hand};
-ghost use Rattle.commands.specs.declared.ToMpu.TheVariants.{HandSlot};
-ghost use Rattle.commands.specs.declared.ToSwitch.TheVariants.{HandTriple};
-ghost use Rattle.commands.specs.Obeyed.{table_after, mpu_after, switch_after, with_mpu, obeyed, nothing_held};
+ghost use Rattle.std.specs.Prelude.{◌≡◌, ltb, set};
+ghost use Rattle.laws.specs.Pick.{pick};
+ghost use Rattle.commands.specs.Obeyed.{table_after, mpu_after, switch_after, obeyed, nothing_held};
 
 use crate::{Command, ToMpu, ToSwitch, ToTable};
-use device::{Mpu, Pair, SLOTS, Write};
+use device::{Mpu, Write};
+use refusal::settled;
 use sequence::WRITES;
-use switch::Switch;
-use table::{CELLS, Entry, Request, Table};
+use switch::{Progress, Switch};
+use table::Table;
 
 // What the commands work on.
 #[derive(Clone, Copy)]
@@ -24,54 +21,34 @@ pub struct Console {
 pub fn nothing_held() -> Console
     ensures { result ≡ nothing_held }
 {
-    let w = Write {
-        rnr: 0,
-        rbar: 0,
-        rasr: 0,
-    };
-    let mpu = Mpu {
-        slots: [Pair { rbar: 0, rasr: 0 }; SLOTS],
-        control: 0,
-    };
-    let table = Table::new();
-    let switch = Switch {
-        mpu,
-        writes: [w; WRITES],
-        position: 0,
-        log: [w; WRITES],
-    };
-    Console { table, switch }
+    Console {
+        table: Table::new(),
+        switch: switch::idle(Mpu::default()),
+    }
 }
 
 // The console after a command; ws are the ten triples that stand beside it.
 pub fn obey(c: Console, k: Command, ws: [Write; WRITES]) -> Console
     ensures { result ≡ obeyed c k ws }
 {
-    let t = c.table;
-    let s = c.switch;
-    let m = s.mpu;
     match k {
-        Command::Bad => c,
-        Command::Silent => c,
-        Command::Tell(_) => c,
-        Command::Table(x) => hold(change_table(t, x), s),
-        Command::Mpu(x) => hold(t, set_mpu(s, change_mpu(m, x, ws))),
-        Command::Switch(x) => hold(t, change_switch(t, s, x)),
+        Command::Bad | Command::Silent | Command::Tell(_) => c,
+        Command::Table(x) => Console {
+            table: change_table(c.table, x),
+            ..c
+        },
+        Command::Mpu(x) => {
+            let mpu = change_mpu(c.switch.mpu, x, ws);
+            Console {
+                switch: Switch { mpu, ..c.switch },
+                ..c
+            }
+        }
+        Command::Switch(x) => Console {
+            switch: change_switch(c, x),
+            ..c
+        },
     }
-}
-
-fn hold(table: Table, switch: Switch) -> Console
-    ensures { (result.table ≡ table) × (result.switch ≡ switch) }
-{
-    Console { table, switch }
-}
-
-fn set_mpu(s: Switch, mpu: Mpu) -> Switch
-    ensures { result ≡ with_mpu s mpu }
-{
-    let mut n = s;
-    n.mpu = mpu;
-    n
 }
 
 fn change_table(t: Table, k: ToTable) -> Table
@@ -79,101 +56,62 @@ fn change_table(t: Table, k: ToTable) -> Table
 {
     match k {
         ToTable::Empty => Table::new(),
-        ToTable::Add(part, q) => add(t, part, q),
-        ToTable::Hand(at, e) => set_entry(t, at, e),
+        ToTable::Add(part, q) => settled(t.try_add_region(part, q)),
+        ToTable::Hand(at, e) => Table {
+            base: put(t.base, at, e.base),
+            size: put(t.size, at, e.size),
+            enabled: put(t.enabled, at, e.enabled),
+            writable: put(t.writable, at, e.writable),
+        },
     }
-}
-
-fn add(t: Table, part: u32, q: Request) -> Table
-    ensures { result ≡ (try_add slots t part q).table }
-{
-    let a = t.try_add_region(part, q);
-    a.table
-}
-
-// Any entry at any place, lawful or not.
-fn set_entry(t: Table, i: u32, e: Entry) -> Table
-    ensures { result ≡ table_after t (Hand i e) }
-{
-    let at = i as usize;
-    if CELLS <= at {
-        return t;
-    }
-    let mut n = t;
-    n.base[at] = e.base;
-    n.size[at] = e.size;
-    n.enabled[at] = e.enabled;
-    n.writable[at] = e.writable;
-    n
 }
 
 fn change_mpu(m: Mpu, k: ToMpu, ws: [Write; WRITES]) -> Mpu
     ensures { result ≡ mpu_after m k ws }
 {
     match k {
-        ToMpu::Reg(w) => {
-            let done = lent::write_through(m, w);
-            done.mpu
-        }
-        ToMpu::HandSlot(at, p) => set_pair(m, at, p, ws),
-        ToMpu::HandCtrl(control) => {
-            let mut n = m;
-            n.control = control;
-            n
-        }
-        ToMpu::Apply => {
-            let done = switch::apply_program(m, ws);
-            done.mpu
-        }
+        ToMpu::Reg(w) => settled(lent::write_through(m, w)),
+        ToMpu::HandSlot(at, p) => Mpu {
+            slots: put(m.slots, at, p),
+            ..m
+        },
+        ToMpu::HandCtrl(control) => Mpu { control, ..m },
+        ToMpu::Apply => settled(switch::apply_program(m, ws).map(|done| done.mpu)),
     }
 }
 
-fn set_pair(m: Mpu, i: u32, p: Pair, ws: [Write; WRITES]) -> Mpu
-    ensures { result ≡ mpu_after m (HandSlot i p) ws }
+fn change_switch(c: Console, k: ToSwitch) -> Switch
+    ensures { result ≡ switch_after c.table c.switch k }
 {
-    let at = i as usize;
-    if SLOTS <= at {
-        return m;
-    }
-    let mut n = m;
-    n.slots[at] = p;
-    n
-}
-
-fn change_switch(t: Table, s: Switch, k: ToSwitch) -> Switch
-    ensures { result ≡ switch_after t s k }
-{
-    let m = s.mpu;
     match k {
-        ToSwitch::Start(part) => {
-            let b = switch::start(m, t, part);
-            b.switch
-        }
-        ToSwitch::Step => {
-            let b = switch::step(s);
-            b.switch
-        }
+        ToSwitch::Start(part) => settled(switch::start(c.switch.mpu, c.table, part)),
+        ToSwitch::Step => match switch::step(c.switch) {
+            Ok(Progress::Wrote(s) | Progress::Finished(s)) => s,
+            Err(e) => e.held,
+        },
         ToSwitch::Whole(part) => {
-            let b = switch::switch_to_partition(m, t, part);
-            b.switch
+            settled(switch::switch_to_partition(c.switch.mpu, c.table, part))
         }
-        ToSwitch::HandTriple(at, w) => set_triple(t, s, at, w),
-        ToSwitch::HandAt(at) => {
-            let mut n = s;
-            n.position = at;
-            n
-        }
+        ToSwitch::HandTriple(at, w) => Switch {
+            writes: put(c.switch.writes, at, w),
+            ..c.switch
+        },
+        ToSwitch::HandAt(position) => Switch {
+            position,
+            ..c.switch
+        },
     }
 }
 
-fn set_triple(t: Table, s: Switch, i: u32, w: Write) -> Switch
-    ensures { result ≡ switch_after t s (HandTriple i w) }
+// The array with x at a place; as it was where there is no such place.
+fn put<T: Copy, const N: usize>(xs: [T; N], at: u32, x: T) -> [T; N]
+    ensures { result ≡ pick (ltb at N) (set xs at x) xs }
 {
-    let at = i as usize;
-    if WRITES <= at {
-        return s;
+    let i = at as usize;
+    if N <= i {
+        return xs;
     }
-    let mut n = s;
-    n.writes[at] = w;
-    n
+    let mut new = xs;
+    new[i] = x;
+    new
 }

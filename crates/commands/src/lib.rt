@@ -6,14 +6,12 @@ mod given;
 mod reading;
 
 ghost use Rattle.std.specs.Prelude.{◌≡◌};
-ghost use Rattle.form.specs.Choice.{first_of};
-ghost use Rattle.commands.specs.Command.{below, rows, meant, is_list, is_apply, list_count, is_silent, command_of, line_command};
-ghost use Rattle.commands.specs.Made.{forms, made};
+ghost use Rattle.form.specs.Form.{form_of};
+ghost use Rattle.commands.specs.Command.{numbers_in, region_rows, table_rows, register_rows, switch_rows, rows, among, meant, below, is_list, is_apply, list_count, is_silent, command_of, line_command};
 
 pub use change::{Console, nothing_held, obey};
 use device::{Access, Kind, Pair, SLOTS, Write};
 use fields::Attributes;
-use form::Chosen;
 pub use given::{record_count, records_of, triples_of};
 use lent::HELD;
 pub use reading::{Reading, held_part, next_number, nothing_read, take_byte};
@@ -24,6 +22,7 @@ use table::{CELLS, Entry, Request};
 const COMMENT: u8 = b'#';
 
 // What a line asks for, with its numbers. A bad line and a silent one are commands too: they ask for nothing.
+// Stays: `Bad` is a case, and no `None`: the definition `command_of` and the laws `other_bad`, `bad_keeps`, `bad_line` say it of every line that is none.
 #[derive(Clone, Copy)]
 pub enum Command {
     Bad,
@@ -78,159 +77,18 @@ pub enum ToSwitch {
     HandAt(u32),
 }
 
-// The numbers of a line, in turn.
-#[derive(Clone, Copy)]
-struct Numbers {
-    a: u32,
-    b: u32,
-    c: u32,
-    d: u32,
-    e: u32,
-}
-
-// Which of the forms the line has, in the order of `make`.
-fn choose(line: &[u8]) -> Chosen
-    ensures { result ≡ first_of line.now 0 (forms rows) }
-{
-    form::read_any(
-        line,
-        b"pow2 n=#\n\
-        region base=# size=#\n\
-        overlap base=# size=# base=# size=#\n\
-        size size=#\n\
-        rasr size=# write=!\n\
-        empty\n\
-        add part=# base=# size=# write=!\n\
-        covers part=# addr=#\n\
-        entry at=#\n\
-        hand at=# enabled=! base=# size=# write=!\n\
-        writes part=#\n\
-        ask kind=read addr=# priv=!\n\
-        ask kind=write addr=# priv=!\n\
-        reg rnr=# rbar=# rasr=#\n\
-        mpu\n\
-        hand-slot slot=# rbar=# rasr=#\n\
-        hand-ctrl ctrl=#\n\
-        start part=#\n\
-        step\n\
-        whole part=#\n\
-        switch\n\
-        hand-triple n=# rnr=# rbar=# rasr=#\n\
-        hand-at at=#\n\
-        ",
-    )
-}
-
-// The command of the form at this place of the forms, with these numbers.
-fn make(at: usize, n: Numbers) -> Command
-    ensures { result ≡ made 0 rows at n }
-{
-    match at {
-        0 => Command::Tell(Tell::Pow2(n.a)),
-        1 => Command::Tell(Tell::Region(Range {
-            base: n.a,
-            size: n.b,
-        })),
-        2 => Command::Tell(Tell::Overlap(
-            Range {
-                base: n.a,
-                size: n.b,
-            },
-            Range {
-                base: n.c,
-                size: n.d,
-            },
-        )),
-        3 => Command::Tell(Tell::Size(n.a)),
-        4 => Command::Tell(Tell::Rasr(Attributes {
-            size: n.a,
-            writable: n.b == 1,
-        })),
-        5 => Command::Table(ToTable::Empty),
-        6 => Command::Table(ToTable::Add(
-            n.a,
-            Request {
-                base: n.b,
-                size: n.c,
-                writable: n.d == 1,
-            },
-        )),
-        7 => Command::Tell(Tell::Covers(n.a, n.b)),
-        8 => below(n.a, CELLS, Command::Tell(Tell::EntryAt(n.a))),
-        9 => below(
-            n.a,
-            CELLS,
-            Command::Table(ToTable::Hand(
-                n.a,
-                Entry {
-                    base: n.c,
-                    size: n.d,
-                    enabled: n.b == 1,
-                    writable: n.e == 1,
-                },
-            )),
-        ),
-        10 => Command::Tell(Tell::Writes(n.a)),
-        11 => Command::Tell(Tell::Ask(Access {
-            address: n.a,
-            kind: Kind::Read,
-            privileged: n.b == 1,
-        })),
-        12 => Command::Tell(Tell::Ask(Access {
-            address: n.a,
-            kind: Kind::Write,
-            privileged: n.b == 1,
-        })),
-        13 => Command::Mpu(ToMpu::Reg(Write {
-            rnr: n.a,
-            rbar: n.b,
-            rasr: n.c,
-        })),
-        14 => Command::Tell(Tell::Pairs),
-        15 => below(
-            n.a,
-            SLOTS,
-            Command::Mpu(ToMpu::HandSlot(
-                n.a,
-                Pair {
-                    rbar: n.b,
-                    rasr: n.c,
-                },
-            )),
-        ),
-        16 => Command::Mpu(ToMpu::HandCtrl(n.a)),
-        17 => Command::Switch(ToSwitch::Start(n.a)),
-        18 => Command::Switch(ToSwitch::Step),
-        19 => Command::Switch(ToSwitch::Whole(n.a)),
-        20 => Command::Tell(Tell::Record),
-        21 => below(
-            n.a,
-            WRITES,
-            Command::Switch(ToSwitch::HandTriple(
-                n.a,
-                Write {
-                    rnr: n.b,
-                    rbar: n.c,
-                    rasr: n.d,
-                },
-            )),
-        ),
-        22 => Command::Switch(ToSwitch::HandAt(n.a)),
-        _ => Command::Bad,
-    }
-}
+// The numbers of a line, in turn; zeros beyond its own.
+type Numbers = (u32, u32, u32, u32, u32);
 
 // The command, where its index is within its range.
 fn below(i: u32, n: usize, c: Command) -> Command
     ensures { result ≡ below i n c }
 {
-    if (i as usize) < n {
-        return c;
-    }
-    Command::Bad
+    if (i as usize) < n { c } else { Command::Bad }
 }
 
 // The command of a line, which is without its newline.
+#[tactic(auto, unfolding(crate::specs::Command::command_of))]
 pub fn command_of(line: &[u8]) -> Command
     ensures { result ≡ command_of line.now }
 {
@@ -247,23 +105,18 @@ pub fn command_of(line: &[u8]) -> Command
 }
 
 // The command of a line that is held: its first bytes, so many. One that is too long is bad.
+#[tactic(auto, unfolding(crate::specs::Command::line_command))]
 pub fn line_command(line: &[u8], held: usize) -> Command
     ensures { result ≡ line_command line.now held }
 {
-    if line.len() < held {
-        return Command::Bad;
-    }
-    command_of(&line[..held])
+    line.get(..held).map_or(Command::Bad, command_of)
 }
 
 // Is this an empty line, or a comment?
 fn is_silent(line: &[u8]) -> bool
     ensures { result ≡ is_silent line.now }
 {
-    if line.len() == 0 {
-        return true;
-    }
-    line[0] == COMMENT
+    matches!(line.first(), None | Some(&COMMENT))
 }
 
 // A count, and as many records as follow it, up to those that are held.
@@ -276,32 +129,158 @@ fn is_list(line: &[u8]) -> bool
 fn list_count(line: &[u8]) -> u32
     ensures { result ≡ list_count line.now }
 {
-    form::read_form(line, 0, b"list count=#").values[0]
+    let [count, ..] = form::values_of(form::read_form(line, 0, b"list count=#"));
+    count
 }
 
 fn is_apply(line: &[u8]) -> bool
     ensures { result ≡ is_apply line.now }
 {
-    form::count_repeats(line, b"apply", b" rnr=# rbar=# rasr=#", 11) == 10
+    form::count_repeats(line, b"apply", b" rnr=# rbar=# rasr=#", WRITES + 1) == WRITES
 }
 
-// The command of a line that has one of the forms.
+// The command of a line that has one of the forms; a line of none is bad.
+#[tactic(auto, using(crate::proofs::AmongLaws::meant_rows))]
 fn by_form(line: &[u8]) -> Command
     ensures { result ≡ meant rows line.now }
 {
-    let f = choose(line);
-    if !f.found {
-        return Command::Bad;
+    region_form(line)
+        .or_else(|| table_form(line))
+        .or_else(|| register_form(line))
+        .or_else(|| switch_form(line))
+        .unwrap_or(Command::Bad)
+}
+
+// The forms by subject, asked in turn: a form and its command stand together, as in a row of `rows`. First regions and register fields.
+fn region_form(line: &[u8]) -> Option<Command>
+    ensures { result ≡ among region_rows line.now }
+{
+    if let Some((n, ..)) = numbers(line, b"pow2 n=#") {
+        return Some(Command::Tell(Tell::Pow2(n)));
     }
-    let v = f.values;
-    make(
-        f.at,
-        Numbers {
-            a: v[0],
-            b: v[1],
-            c: v[2],
-            d: v[3],
-            e: v[4],
-        },
-    )
+    if let Some((base, size, ..)) = numbers(line, b"region base=# size=#") {
+        return Some(Command::Tell(Tell::Region(Range { base, size })));
+    }
+    if let Some((b, s, base, size, _)) = numbers(line, b"overlap base=# size=# base=# size=#") {
+        let first = Range { base: b, size: s };
+        return Some(Command::Tell(Tell::Overlap(first, Range { base, size })));
+    }
+    if let Some((size, ..)) = numbers(line, b"size size=#") {
+        return Some(Command::Tell(Tell::Size(size)));
+    }
+    if let Some((size, write, ..)) = numbers(line, b"rasr size=# write=!") {
+        let writable = write == 1;
+        return Some(Command::Tell(Tell::Rasr(Attributes { size, writable })));
+    }
+    None
+}
+
+// The table.
+fn table_form(line: &[u8]) -> Option<Command>
+    ensures { result ≡ among table_rows line.now }
+{
+    if let Some(_) = numbers(line, b"empty") {
+        return Some(Command::Table(ToTable::Empty));
+    }
+    if let Some((part, base, size, write, _)) = numbers(line, b"add part=# base=# size=# write=!") {
+        let writable = write == 1;
+        let asked = Request {
+            base,
+            size,
+            writable,
+        };
+        return Some(Command::Table(ToTable::Add(part, asked)));
+    }
+    if let Some((part, addr, ..)) = numbers(line, b"covers part=# addr=#") {
+        return Some(Command::Tell(Tell::Covers(part, addr)));
+    }
+    if let Some((at, ..)) = numbers(line, b"entry at=#") {
+        return Some(below(at, CELLS, Command::Tell(Tell::EntryAt(at))));
+    }
+    if let Some((at, mark, base, size, write)) = numbers(
+        line,
+        b"hand at=# enabled=! base=# size=# write=!",
+    ) {
+        let e = Entry {
+            base,
+            size,
+            enabled: mark == 1,
+            writable: write == 1,
+        };
+        return Some(below(at, CELLS, Command::Table(ToTable::Hand(at, e))));
+    }
+    None
+}
+
+// The writes of a partition, and the MPU.
+fn register_form(line: &[u8]) -> Option<Command>
+    ensures { result ≡ among register_rows line.now }
+{
+    if let Some((part, ..)) = numbers(line, b"writes part=#") {
+        return Some(Command::Tell(Tell::Writes(part)));
+    }
+    if let Some((address, mark, ..)) = numbers(line, b"ask kind=read addr=# priv=!") {
+        let asked = Access {
+            address,
+            kind: Kind::Read,
+            privileged: mark == 1,
+        };
+        return Some(Command::Tell(Tell::Ask(asked)));
+    }
+    if let Some((address, mark, ..)) = numbers(line, b"ask kind=write addr=# priv=!") {
+        let asked = Access {
+            address,
+            kind: Kind::Write,
+            privileged: mark == 1,
+        };
+        return Some(Command::Tell(Tell::Ask(asked)));
+    }
+    if let Some((rnr, rbar, rasr, ..)) = numbers(line, b"reg rnr=# rbar=# rasr=#") {
+        return Some(Command::Mpu(ToMpu::Reg(Write { rnr, rbar, rasr })));
+    }
+    if let Some(_) = numbers(line, b"mpu") {
+        return Some(Command::Tell(Tell::Pairs));
+    }
+    if let Some((slot, rbar, rasr, ..)) = numbers(line, b"hand-slot slot=# rbar=# rasr=#") {
+        let pair = Pair { rbar, rasr };
+        return Some(below(slot, SLOTS, Command::Mpu(ToMpu::HandSlot(slot, pair))));
+    }
+    if let Some((ctrl, ..)) = numbers(line, b"hand-ctrl ctrl=#") {
+        return Some(Command::Mpu(ToMpu::HandCtrl(ctrl)));
+    }
+    None
+}
+
+// The switch record.
+fn switch_form(line: &[u8]) -> Option<Command>
+    ensures { result ≡ among switch_rows line.now }
+{
+    if let Some((part, ..)) = numbers(line, b"start part=#") {
+        return Some(Command::Switch(ToSwitch::Start(part)));
+    }
+    if let Some(_) = numbers(line, b"step") {
+        return Some(Command::Switch(ToSwitch::Step));
+    }
+    if let Some((part, ..)) = numbers(line, b"whole part=#") {
+        return Some(Command::Switch(ToSwitch::Whole(part)));
+    }
+    if let Some(_) = numbers(line, b"switch") {
+        return Some(Command::Tell(Tell::Record));
+    }
+    if let Some((n, rnr, rbar, rasr, _)) = numbers(line, b"hand-triple n=# rnr=# rbar=# rasr=#") {
+        let w = Write { rnr, rbar, rasr };
+        return Some(below(n, WRITES, Command::Switch(ToSwitch::HandTriple(n, w))));
+    }
+    if let Some((at, ..)) = numbers(line, b"hand-at at=#") {
+        return Some(Command::Switch(ToSwitch::HandAt(at)));
+    }
+    None
+}
+
+// The numbers of a line that has this form.
+fn numbers(line: &[u8], form: &[u8]) -> Option<Numbers>
+    ensures { result ≡ numbers_in (form_of line.now form.now) }
+{
+    let [a, b, c, d, e] = form::read_whole(line, form)?.values;
+    Some((a, b, c, d, e))
 }

@@ -7,6 +7,7 @@ use crate::{Console, line_command, nothing_held, obey, triples_of};
 const NEWLINE: u8 = b'\n';
 
 // What is read so far: how many bytes of its line are held, and how many lines were ended.
+// Stays: the line's bytes lie beside it, as `take_byte`, `line_command` and `held_part` have them in their contracts, and `taken_all` and the laws of reading.
 #[derive(Clone, Copy)]
 pub struct Reading {
     pub console: Console,
@@ -17,9 +18,8 @@ pub struct Reading {
 pub fn nothing_read() -> Reading
     ensures { result ≡ nothing_read }
 {
-    let console = nothing_held();
     Reading {
-        console,
+        console: nothing_held(),
         held: 0,
         lines: 0,
     }
@@ -32,31 +32,26 @@ pub fn take_byte(r: Reading, line: &mut [u8], byte: u8) -> Reading
     if byte == NEWLINE {
         return end_line(r, line);
     }
-    let mut n = r;
-    n.held = form::gather(line, r.held, byte);
-    n
+    let held = form::gather(line, r.held, byte);
+    Reading { held, ..r }
 }
 
 // The number of the line after so many. No input has as many lines as there are numbers.
 pub fn next_number(lines: u64) -> u64
     ensures { result ≡ counted lines }
 {
-    if lines < u64::MAX { lines + 1 } else { lines }
+    lines.saturating_add(1)
 }
 
 fn end_line(r: Reading, line: &[u8]) -> Reading
     ensures { result ≡ ended r line.now }
 {
-    let c = r.console;
     let k = line_command(line, r.held);
     let ws = triples_of(held_part(line, r.held));
-    let console = obey(c, k, ws);
-    let held = 0;
-    let lines = next_number(r.lines);
     Reading {
-        console,
-        held,
-        lines,
+        console: obey(r.console, k, ws),
+        held: 0,
+        lines: next_number(r.lines),
     }
 }
 
@@ -64,8 +59,5 @@ fn end_line(r: Reading, line: &[u8]) -> Reading
 pub fn held_part(line: &[u8], held: usize) -> &[u8]
     ensures { result.now ≡ take held line.now }
 {
-    if line.len() <= held {
-        return line;
-    }
-    &line[..held]
+    line.get(..held).unwrap_or(line)
 }

@@ -1,66 +1,57 @@
--- How one byte of a text of forms, and one form more, take the reading on. Assumes nothing.
-use mathlib.Core.Path.{◌≡◌, refl, sym, ◌∙◌}
-use mathlib.Core.Bool.{Bool, true, false, true≢false}
-use mathlib.Core.List.{List, [], ◌∷◌, ◌++◌}
-use Prim.Native.Nat.{ℕ, suc, ◌+◌, ◌-◌, ◌≤◌, ◌<◌}
+-- The forms of a text, one after the other: each ends at the next newline, and after the last newline there is none. By going along the bytes. Assumes nothing.
+use mathlib.Core.Path.{◌≡◌, sym, ◌∙◌}
+use mathlib.Core.List.{List, [], ◌∷◌, ◌++◌, append-nil}
+use Prim.Native.Nat.{ℕ, zero, suc, ◌+◌, ◌-◌, ◌≤◌, ◌<◌}
 use native.Mathlib.Numerals.{add-one}
 use native.Mathlib.Omega.{arith}
-use lib.Dec.{eqb}
-use lib.ListN.{length, get_or, take, drop, length-drop, replicate, drop_of_length-le}
-use lib.Seq.{take-suc, drop-cons, get_or-drop}
-use Rattle.laws.specs.Pick.{pick}
-use Rattle.text.specs.Read.{newline}
-use Rattle.form.specs.declared.Chosen.{Chosen}
-use Rattle.form.specs.declared.Trying.{Trying}
-use Rattle.form.specs.Form.{most, form_of}
-use Rattle.form.specs.Choice.{none_of, lines_from, first_of, part, tried}
+use borrow.Author.Tests.{eq-eqb, ne_eqb}
+use lib.ListN.{length, get_or, take, drop, drop_of_length-le}
+use lib.Seq.{drop-cons, append_snoc}
+use Rattle.std.proofs.Common.{Some, None}
+use Rattle.text.specs.Read.{newline, newline_from}
+use Rattle.text.proofs.NewlineLaws.{newline_exactly, newline_none}
+use Rattle.form.specs.declared.Formed.{Formed}
+use Rattle.form.specs.Form.{form_of}
+use Rattle.form.specs.Choice.{lines_from, first_of}
 
--- what is chosen from byte i on
-abbrev pub left : List ℕ → List ℕ → Trying → ℕ → Chosen
-left line text s i = first_of line s.at (lines_from (part text s i) (drop i text))
+-- the forms from a place on
+abbrev pub forms_left : List ℕ → ℕ → List (List ℕ)
+forms_left text from = lines_from [] (drop from text)
 
-module _ (line text : List ℕ) (s : Trying) (i : ℕ) (h : i < length text) (b : s.from ≤ i) where
-  grown : part text s (i + 1) ≡ part text s i ++ (get_or text i 0 ∷ [])
-  grown =
-      let one : i + 1 - s.from ≡ suc (i - s.from) = omega arith in
-      let there : s.from + (i - s.from) ≡ i = omega arith in
-      let within : i - s.from < length (drop s.from text) = simp length-drop (omega arith) in
-      rw one (take-suc (drop s.from text) (i - s.from) 0 within ∙ rw (get_or-drop s.from text (i - s.from) 0, there))
+module _ (text : List ℕ) where
+  line_along : (k i e : ℕ) (part : List ℕ) → i + k ≡ e → e < length text → get_or text e 0 ≡ newline → ((j : ℕ) → i ≤ j → j < e → get_or text j 0 ≡ newline → ⊥) →
+      lines_from part (drop i text) ≡ (part ++ take k (drop i text)) ∷ forms_left text (suc e)
+  unfolding lines_from
+  line_along zero i e part s h n o =
+      let same : i ≡ e = omega arith in
+      rw (same, drop-cons text e 0 h, eq-eqb _ _ n, append-nil)
+  line_along (suc k) i e part s h n o =
+      let next = line_along k (suc i) e (part ++ (get_or text i 0 ∷ [])) (omega arith) h n (λ j a b. o j (omega arith) b) in
+      rw (drop-cons text i 0 (omega arith), ne_eqb _ _ (o i (omega arith) (omega arith))) (next ∙ rw append_snoc)
 
-  anew : take (i + 1 - (i + 1)) (drop (i + 1) text) ≡ []
-  anew = let none : i + 1 - (i + 1) ≡ 0 = omega arith in rw none
+  line_none : (k i : ℕ) (part : List ℕ) → i + k ≡ length text → ((j : ℕ) → i ≤ j → j < length text → get_or text j 0 ≡ newline → ⊥) → lines_from part (drop i text) ≡ []
+  unfolding lines_from
+  line_none zero i part s o = let h : length text ≤ i = omega arith in rw (drop_of_length-le text h)
+  line_none (suc k) i part s o =
+      rw (drop-cons text i 0 (omega arith), ne_eqb _ _ (o i (omega arith) (omega arith))) (line_none k (suc i) (part ++ (get_or text i 0 ∷ [])) (omega arith) (λ j a b. o j (omega arith) b))
 
-  pub try_found : s.found ≡ false → (tried line text s i).found ≡ true → left line text s i ≡ record { found = true; at = (tried line text s i).at; values = (tried line text s i).values }
-  unfolding tried lines_from first_of
-  try_found e = by (eqb (get_or text i 0) newline) refl (form_of line (part text s i)).read refl
-    where
-      by : (n : Bool) → eqb (get_or text i 0) newline ≡ n → (r : Bool) → (form_of line (part text s i)).read ≡ r → (tried line text s i).found ≡ true →
-          left line text s i ≡ record { found = true; at = (tried line text s i).at; values = (tried line text s i).values }
-      by true en true er f = rw (drop-cons text i 0 h, en, er)
-      by true en false er f = absurd (true≢false (sym (rw (en, er) at f)))
-      by false en r er f = absurd (true≢false (sym (rw en at f) ∙ e))
+pub newline_within : (text : List ℕ) (from : ℕ) {e : ℕ} → Some e ≡ newline_from text from → (from ≤ e) × (e < length text)
+newline_within text from {e} n = let w = (newline_exactly text from e).0 (sym n) in (w.from, w.within)
 
-  pub try_next : (tried line text s i).found ≡ false → left line text s i ≡ left line text (tried line text s i) (i + 1)
-  unfolding tried lines_from first_of
-  try_next = by (eqb (get_or text i 0) newline) refl (form_of line (part text s i)).read refl
-    where
-      by : (n : Bool) → eqb (get_or text i 0) newline ≡ n → (r : Bool) → (form_of line (part text s i)).read ≡ r → (tried line text s i).found ≡ false →
-          left line text s i ≡ left line text (tried line text s i) (i + 1)
-      by true en true er f = absurd (true≢false (rw (en, er) at f))
-      by true en false er f = rw (drop-cons text i 0 h, en, er, anew, add-one i)
-      by false en r er f = rw (drop-cons text i 0 h, en, grown, add-one i)
+module _ (line text : List ℕ) (k from : ℕ) where
+  forms_next : {e : ℕ} → Some e ≡ newline_from text from → forms_left text from ≡ take (e - from) (drop from text) ∷ forms_left text (e + 1)
+  forms_next {e} n =
+      let w = (newline_exactly text from e).0 (sym n) in
+      rw add-one (line_along text (e - from) from e [] (omega (arith, w.from)) w.within w.here w.none)
 
-  pub try_within : ((tried line text s i).from ≤ i + 1) × (s.at ≤ i → (tried line text s i).at ≤ i + 1)
-  unfolding tried
-  try_within = by (eqb (get_or text i 0) newline) (form_of line (part text s i)).read
-    where
-      by : (n r : Bool) → let t : Trying = pick n (pick r (record { found = true; at = s.at; from = i + 1; values = (form_of line (part text s i)).values }) (record { found = false; at = s.at + 1; from = i + 1; values = replicate most 0 })) s in
-          (t.from ≤ i + 1) × (s.at ≤ i → t.at ≤ i + 1)
-      by true true = (omega arith, λ a. omega arith)
-      by true false = (omega arith, λ a. omega arith)
-      by false r = (omega arith, λ a. omega arith)
+  pub form_found : {e : ℕ} {f : Formed} → Some e ≡ newline_from text from → Some f ≡ form_of line (take (e - from) (drop from text)) → first_of line k (forms_left text from) ≡ Some (record { at = k; values = f.values })
+  unfolding first_of
+  form_found n m = rw (forms_next n, ← m)
 
--- once all bytes are tried, no form is left
-pub try_end : (line text : List ℕ) (s : Trying) (i : ℕ) → length text ≤ i → left line text s i ≡ none_of
-unfolding lines_from first_of
-try_end line text s i h = rw (drop_of_length-le text h)
+  pub form_next : {e : ℕ} → Some e ≡ newline_from text from → None ≡ form_of line (take (e - from) (drop from text)) → first_of line k (forms_left text from) ≡ first_of line (k + 1) (forms_left text (e + 1))
+  unfolding first_of
+  form_next n m = rw (forms_next n, ← m)
+
+  pub form_end : from ≤ length text → None ≡ newline_from text from → first_of line k (forms_left text from) ≡ None
+  unfolding first_of
+  form_end h n = rw (line_none text (length text - from) from [] (omega arith) (newline_none text from (sym n)))

@@ -6,22 +6,21 @@ use mathlib.Core.List.{List, [], ◌∷◌, ◌++◌, append-nil}
 use Prim.Native.Nat.{ℕ, ◌+◌}
 use native.Mathlib.Nat.{add-zero, le_refl}
 use native.Mathlib.Numerals.{add-one}
-use native.Mathlib.Omega.{arith}
 use borrow.Author.Tests.{ltb-true, eqb-true}
 use lib.Dec.{ltb, eqb}
 use lib.ListN.{length, get_or, drop, set, drop_of_length-le}
 use lib.Seq.{drop-cons}
 use Rattle.laws.specs.Pick.{pick}
 use Rattle.laws.proofs.BoolLaws.{and_left, and_right}
-use Rattle.text.specs.declared.Number.{Number}
-use Rattle.text.specs.declared.Number.TheVariants.{Value, Nothing}
+use Rattle.std.proofs.Common.{Option, Some, None}
+use Rattle.std.proofs.lemmas.Option.{option_and_then_some}
+use Rattle.std.specs.Option.{is_some}
 use Rattle.text.specs.Digits.{digits}
-use Rattle.text.specs.Read.{number_at, Stands}
-use Rattle.text.specs.Line.{after_number}
+use Rattle.text.specs.Read.{◌>>=◌, number_at, Stands}
 use Rattle.text.proofs.StandsLaws.{stands_join}
 use Rattle.text.proofs.NumberLaws.{number_exactly}
 use Rattle.form.specs.declared.Formed.{Formed}
-use Rattle.form.specs.Form.{most, no_form, begun, takes_number, no_mark, value_at, stands_at, kept, moved_on, read_on, formed, form_at, form_of}
+use Rattle.form.specs.Form.{most, begun, takes_number, no_mark, value_at, stands_at, kept, moved_on, read_on, formed, form_at, form_of}
 use Rattle.form.specs.Filled.{filled, kept_all, Means, LineMeans}
 
 never : {X : Type 0} → false ≡ true → X
@@ -34,21 +33,14 @@ data Met (bytes : List ℕ) (f : Formed) (c : ℕ) (g : Formed) : Type 0 where
   itself : takes_number c ≡ false → Stands bytes f.next (c ∷ []) g.next →
       ((ws : List ℕ) → kept_all g.count g.values ws ≡ kept_all f.count f.values ws) → Met bytes f c g
 
-module _ (bytes : List ℕ) (c at v p : ℕ) where
-  value_number : value_at c bytes at ≡ Value v p → number_at bytes at ≡ Value v p
-  unfolding value_at
-  value_number = by (number_at bytes at) refl
-    where
-      refused : {X : Type 0} → Nothing ≡ Value v p → X
-      refused e = let z : ◌≡◌ {A = ℕ} 0 1 = cc in absurd (omega arith)
-
-      sized : (w q : ℕ) (t : Bool) → pick t Nothing (Value w q) ≡ Value v p → Value w q ≡ Value v p
-      sized w q true e = refused e
-      sized w q false e = e
-
-      by : (n : Number) → number_at bytes at ≡ n → after_number n Nothing (λ w q. pick (no_mark c w) Nothing (Value w q)) ≡ Value v p → number_at bytes at ≡ Value v p
-      by Nothing h e = refused e
-      by (Value w q) h e = h ∙ sized w q (no_mark c w) e
+value_number : (bytes : List ℕ) (c at : ℕ) (n : ℕ × ℕ) → value_at c bytes at ≡ Some n → number_at bytes at ≡ Some n
+unfolding value_at
+value_number bytes c at n e =
+    option_and_then_some _ (number_at bytes at) n e (λ m f g. f ∙ sized m (no_mark c m.0) g)
+  where
+    sized : (m : ℕ × ℕ) (t : Bool) → pick t None (Some m) ≡ Some n → Some m ≡ Some n
+    sized m true g = cc
+    sized m false g = g
 
 byte_stands : (bytes : List ℕ) (at c : ℕ) → stands_at bytes at c ≡ true → Stands bytes at (c ∷ []) (at + 1)
 byte_stands bytes at c e =
@@ -65,21 +57,13 @@ kept_full k vs (w ∷ ws) e = rw e
 module _ (f : Formed) (v p : ℕ) where
   abbrev more : Bool → Formed
   more m =
-      pick m (record { read = f.read; next = p; count = f.count + 1; values = set f.values f.count v }) (record { read = f.read; next = p; count = f.count; values = f.values })
+      pick m (record { next = p; count = f.count + 1; values = set f.values f.count v }) (record { next = p; count = f.count; values = f.values })
 
   pub kept_next : (kept f v p).next ≡ p
   unfolding kept
   kept_next = by (ltb f.count most)
     where
       by : (m : Bool) → (more m).next ≡ p
-      by true = refl
-      by false = refl
-
-  pub kept_read : (kept f v p).read ≡ f.read
-  unfolding kept
-  kept_read = by (ltb f.count most)
-    where
-      by : (m : Bool) → (more m).read ≡ f.read
       by true = refl
       by false = refl
 
@@ -91,19 +75,21 @@ module _ (f : Formed) (v p : ℕ) where
       by true e = refl
       by false e = kept_full f.count f.values ws e
 
-met : (bytes : List ℕ) (f : Formed) (c : ℕ) → (read_on bytes f c).read ≡ true → Met bytes f c (read_on bytes f c)
+met : (bytes : List ℕ) (f : Formed) (c : ℕ) (g : Formed) → read_on bytes f c ≡ Some g → Met bytes f c g
 unfolding read_on
-met bytes f c = by (takes_number c) (value_at c bytes f.next) (stands_at bytes f.next c) refl refl refl
+met bytes f c g = by (takes_number c) (stands_at bytes f.next c) refl refl
   where
-    by : (t : Bool) (n : Number) (s : Bool) → takes_number c ≡ t → value_at c bytes f.next ≡ n → stands_at bytes f.next c ≡ s →
-        (pick t (after_number n no_form (λ v p. kept f v p)) (pick s (moved_on f) no_form)).read ≡ true →
-        Met bytes f c (pick t (after_number n no_form (λ v p. kept f v p)) (pick s (moved_on f) no_form))
-    by true (Value v p) s t n _ e =
-        let here = (number_exactly bytes f.next v p).0 (value_number bytes c f.next v p n) in
-        number v t (subst (λ (q : ℕ). Stands bytes f.next (digits v) q) (sym (kept_next f v p)) here.here) (kept_all_lem f v p)
-    by true Nothing s t n _ e = never e
-    by false n true t _ s e = itself t (byte_stands bytes f.next c s) (λ ws. refl)
-    by false n false t _ s e = never e
+    kept_here : (n : ℕ × ℕ) → takes_number c ≡ true → value_at c bytes f.next ≡ Some n → Met bytes f c (kept f n.0 n.1)
+    kept_here n t e =
+        let here = (number_exactly bytes f.next n.0 n.1).0 (value_number bytes c f.next n e) in
+        number n.0 t (subst (λ (q : ℕ). Stands bytes f.next (digits n.0) q) (sym (kept_next f n.0 n.1)) here.here) (kept_all_lem f n.0 n.1)
+
+    by : (t s : Bool) → takes_number c ≡ t → stands_at bytes f.next c ≡ s →
+        pick t (value_at c bytes f.next >>= (λ n. Some (kept f n.0 n.1))) (pick s (Some (moved_on f)) None) ≡ Some g → Met bytes f c g
+    by true s t _ e =
+        option_and_then_some _ (value_at c bytes f.next) g e (λ n v w. let same : kept f n.0 n.1 ≡ g = cc in subst (λ (h : Formed). Met bytes f c h) same (kept_here n t v))
+    by false true t s e = let same : moved_on f ≡ g = cc in subst (λ (h : Formed). Met bytes f c h) same (itself t (byte_stands bytes f.next c s) (λ ws. refl))
+    by false false t s e = cc
 
 -- ---- the places of a form, one byte of it met
 pub filled_number : (c : ℕ) (form : List ℕ) (w : ℕ) (ws : List ℕ) → takes_number c ≡ true → filled (c ∷ form) (w ∷ ws) ≡ digits w ++ filled form ws
@@ -130,28 +116,30 @@ module _ (bytes form : List ℕ) (f g h : Formed) (c : ℕ) (rest : Means bytes 
         values = rest.values ∙ keeps rest.numbers;
       }
 
-pub form_means : (bytes form : List ℕ) (f : Formed) → (formed bytes f form).read ≡ true → Means bytes form f (formed bytes f form)
+pub form_means : (bytes form : List ℕ) (f g : Formed) → formed bytes f form ≡ Some g → Means bytes form f g
 unfolding formed filled kept_all
-form_means bytes [] f e = record { numbers = []; text = record { text = refl; next = sym (add-zero f.next) }; values = refl }
-form_means bytes (c ∷ form) f e = by (read_on bytes f c).read refl (form_means bytes form (read_on bytes f c)) e
-  where
-    by : (b : Bool) → (read_on bytes f c).read ≡ b → ((formed bytes (read_on bytes f c) form).read ≡ true → Means bytes form (read_on bytes f c) (formed bytes (read_on bytes f c) form)) →
-        (pick {X = Formed} b (formed bytes (read_on bytes f c) form) (read_on bytes f c)).read ≡ true → Means bytes (c ∷ form) f (pick b (formed bytes (read_on bytes f c) form) (read_on bytes f c))
-    by true q rest e = means_next bytes form f (read_on bytes f c) (formed bytes (read_on bytes f c) form) c (rest e) (met bytes f c q)
-    by false q rest e = never (sym q ∙ e)
+form_means bytes [] f g e =
+    let same : f ≡ g = cc in
+    subst (λ (h : Formed). Means bytes [] f h) same (record { numbers = []; text = record { text = refl; next = sym (add-zero f.next) }; values = refl })
+form_means bytes (c ∷ form) f h e =
+    option_and_then_some _ (read_on bytes f c) h e (λ g o rest. means_next bytes form f g h c (form_means bytes form g h rest) (met bytes f c g o))
 
 -- ---- a whole line: it is the form with these numbers, and nothing more
-pub line_means : (line form : List ℕ) → (form_of line form).read ≡ true → LineMeans line form
-line_means line form = by (eqb (form_at line 0 form).next (length line)) refl
+pub line_means : (line form : List ℕ) → is_some (form_of line form) ≡ true → LineMeans line form
+line_means line form = by (form_at line 0 form) refl
   where
-    by : (b : Bool) → eqb (form_at line 0 form).next (length line) ≡ b → (pick {X = Formed} b (form_at line 0 form) no_form).read ≡ true → LineMeans line form
-    by true q e =
-        let m = form_means line form (begun 0) e in
-        let last : (form_at line 0 form).next ≡ length line = eqb-true (form_at line 0 form).next (length line) q in
-        let ended : drop (form_at line 0 form).next line ≡ [] = rw last (drop_of_length-le line (le_refl (length line))) in
+    done : (f : Formed) → form_at line 0 form ≡ Some f → (b : Bool) → eqb f.next (length line) ≡ b → is_some (pick b (Some f) None) ≡ true → LineMeans line form
+    done f o true q e =
+        let m = form_means line form (begun 0) f o in
+        let last : f.next ≡ length line = eqb-true f.next (length line) q in
+        let ended : drop f.next line ≡ [] = rw last (drop_of_length-le line (le_refl (length line))) in
         record {
           numbers = m.numbers;
           text = m.text.text ∙ ap (λ (l : List ℕ). filled form m.numbers ++ l) ended ∙ append-nil (filled form m.numbers);
-          values = rw q m.values;
+          values = rw (o, q) m.values;
         }
-    by false q e = never e
+    done f o false q e = never e
+
+    by : (r : Option Formed) → form_at line 0 form ≡ r → is_some (r >>= (λ f. pick (eqb f.next (length line)) (Some f) None)) ≡ true → LineMeans line form
+    by None o e = never e
+    by (Some f) o e = done f o (eqb f.next (length line)) refl e

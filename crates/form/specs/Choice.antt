@@ -5,54 +5,41 @@
 --   times line form n f      == what is read with n times the form, one after the other, f being read before them
 --   follows line head form n == the line is the head and then n times the form, and nothing more
 --   repeats line head form m == how often the form follows the head, if that is below m; m where the line is none such
---   part text s i            == the bytes of a text from where its next form begins up to i
---   tried line text s i      == the forms tried, with byte i of their text: a newline ends a form, which the line has or not
-use Rattle.std.specs.Prelude.{Bool, true, false, ◌&&◌, List, [], ◌∷◌, ◌++◌, ℕ, zero, suc, ◌+◌, ◌-◌, eqb, length, get_or, take, drop, replicate}
+use Rattle.std.specs.Prelude.{Bool, false, List, [], ◌∷◌, ◌++◌, ℕ, zero, suc, ◌+◌, eqb, length, Option, Some, None}
 use Rattle.laws.specs.Pick.{pick}
 use Rattle.laws.specs.Search.{lowest}
-use Rattle.text.specs.Read.{newline}
+use Rattle.text.specs.Read.{◌>>=◌, newline}
 use Rattle.form.specs.declared.Formed.{Formed}
 use Rattle.form.specs.declared.Chosen.{Chosen}
-use Rattle.form.specs.declared.Trying.{Trying}
-use Rattle.form.specs.Form.{most, form_at, form_of}
+use Rattle.form.specs.Form.{form_at, form_of}
 
 unfoldable pub lines_from : List ℕ → List ℕ → List (List ℕ)
 lines_from part [] = []
 lines_from part (b ∷ bs) = pick (eqb b newline) (part ∷ lines_from [] bs) (lines_from (part ++ (b ∷ [])) bs)
 
-abbrev pub none_of : Chosen
-none_of = record { found = false; at = 0; values = replicate most 0 }
+-- the form that is there, counted k, and its numbers; else what the others give
+abbrev pub or_else : Option Formed → ℕ → Option Chosen → Option Chosen
+or_else None k rest = rest
+or_else (Some f) k rest = Some (record { at = k; values = f.values })
 
-unfoldable pub first_of : List ℕ → ℕ → List (List ℕ) → Chosen
-first_of line k [] = none_of
-first_of line k (form ∷ forms) =
-    pick (form_of line form).read (record { found = true; at = k; values = (form_of line form).values }) (first_of line (k + 1) forms)
+unfoldable pub first_of : List ℕ → ℕ → List (List ℕ) → Option Chosen
+first_of line k [] = None
+first_of line k (form ∷ forms) = or_else (form_of line form) k (first_of line (k + 1) forms)
 
-abbrev pub chosen : List ℕ → List ℕ → Chosen
+abbrev pub chosen : List ℕ → List ℕ → Option Chosen
 chosen line text = first_of line 0 (lines_from [] text)
 
--- ---- the forms of a text, byte by byte
-abbrev pub part : List ℕ → Trying → ℕ → List ℕ
-part text s i = take (i - s.from) (drop s.from text)
-
-unfoldable pub tried : List ℕ → List ℕ → Trying → ℕ → Trying
-tried line text s i =
-    pick (eqb (get_or text i 0) newline)
-    (pick (form_of line (part text s i)).read
-    (record { found = true; at = s.at; from = i + 1; values = (form_of line (part text s i)).values })
-    (record { found = false; at = s.at + 1; from = i + 1; values = replicate most 0 }))
-    s
-
 -- ---- a form that follows another
-unfoldable pub onward : List ℕ → List ℕ → Formed → Formed
-onward line form f = pick f.read (form_at line f.next form) f
+unfoldable pub onward : List ℕ → List ℕ → Option Formed → Option Formed
+onward line form f = f >>= λ g. form_at line g.next form
 
-unfoldable pub times : List ℕ → List ℕ → ℕ → Formed → Formed
+unfoldable pub times : List ℕ → List ℕ → ℕ → Option Formed → Option Formed
 times line form zero f = f
 times line form (suc n) f = onward line form (times line form n f)
 
-abbrev pub whole : List ℕ → Formed → Bool
-whole line f = f.read && eqb f.next (length line)
+abbrev pub whole : List ℕ → Option Formed → Bool
+whole line None = false
+whole line (Some f) = eqb f.next (length line)
 
 abbrev pub follows : List ℕ → List ℕ → List ℕ → ℕ → Bool
 follows line head form n = whole line (times line form n (form_at line 0 head))

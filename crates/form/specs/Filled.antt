@@ -5,12 +5,12 @@
 --   kept_all k vs ws     == the kept numbers vs, of which there are k, with ws after them as far as there is room
 --   Means bytes form f g == what it means that g is read by a form, after f: some numbers stand in its places, and are kept
 --   LineMeans line form  == the same of a whole line: it is the form with these numbers
-use Rattle.std.specs.Prelude.{◌≡◌, Bool, true, false, not, ◌&&◌, List, [], ◌∷◌, ◌++◌, ℕ, ◌+◌, leb, ltb, get_or, set, replicate}
+use Rattle.std.specs.Prelude.{◌≡◌, Bool, true, false, not, ◌&&◌, List, [], ◌∷◌, ◌++◌, ℕ, ◌+◌, leb, ltb, get_or, set}
 use Rattle.laws.specs.Pick.{pick}
 use Rattle.text.specs.Digits.{largest, digits, is_digit}
 use Rattle.text.specs.Read.{Stands}
 use Rattle.form.specs.declared.Formed.{Formed}
-use Rattle.form.specs.Form.{most, takes_number, no_mark, form_of}
+use Rattle.form.specs.Form.{most, zeros, takes_number, no_mark, form_of, values_of}
 
 unfoldable pub filled : List ℕ → List ℕ → List ℕ
 filled [] ws = []
@@ -39,4 +39,4 @@ pub record Means (bytes form : List ℕ) (f g : Formed) : Type 0 where
 pub record LineMeans (line form : List ℕ) : Type 0 where
   pub numbers : List ℕ
   pub text : line ≡ filled form numbers
-  pub values : (form_of line form).values ≡ kept_all 0 (replicate most 0) numbers
+  pub values : values_of (form_of line form) ≡ kept_all 0 zeros numbers

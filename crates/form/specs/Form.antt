@@ -7,12 +7,10 @@
 --   formed bytes f form   == what is read with the rest of a form; nothing from the first byte on that is not met
 --   form_at bytes at form == what is read where a form stands at a place: its numbers in turn, and the place after it
 --   form_of line form     == the same, where the line has nothing more
-use Rattle.std.specs.Prelude.{Bool, true, false, ◌&&◌, ◌||◌, List, [], ◌∷◌, ℕ, ◌+◌, ltb, eqb, length, get_or, set, replicate}
+--   values_of r          == the numbers that were read, zeros where nothing was
+use Rattle.std.specs.Prelude.{Bool, ◌&&◌, ◌||◌, List, [], ◌∷◌, ℕ, ◌+◌, ltb, eqb, length, get_or, set, replicate, Option, Some, None}
 use Rattle.laws.specs.Pick.{pick}
-use Rattle.text.specs.declared.Number.{Number}
-use Rattle.text.specs.declared.Number.TheVariants as number
-use Rattle.text.specs.Read.{number_at}
-use Rattle.text.specs.Line.{after_number}
+use Rattle.text.specs.Read.{Read, ◌>>=◌, number_at}
 use Rattle.form.specs.declared.Formed.{Formed}
 
 -- the most numbers that are kept; one beyond them is read and not kept
@@ -27,11 +25,11 @@ number_sign = 35
 abbrev pub mark_sign : ℕ
 mark_sign = 33
 
-abbrev pub no_form : Formed
-no_form = record { read = false; next = 0; count = 0; values = replicate most 0 }
+abbrev pub zeros : List ℕ
+zeros = replicate most 0
 
 abbrev pub begun : ℕ → Formed
-begun at = record { read = true; next = at; count = 0; values = replicate most 0 }
+begun at = record { next = at; count = 0; values = zeros }
 
 abbrev pub takes_number : ℕ → Bool
 takes_number c = eqb c number_sign || eqb c mark_sign
@@ -40,8 +38,8 @@ takes_number c = eqb c number_sign || eqb c mark_sign
 abbrev pub no_mark : ℕ → ℕ → Bool
 no_mark c v = eqb c mark_sign && ltb 1 v
 
-unfoldable pub value_at : ℕ → List ℕ → ℕ → Number
-value_at c bytes at = after_number (number_at bytes at) number.Nothing (λ v p. pick (no_mark c v) number.Nothing (number.Value v p))
+unfoldable pub value_at : ℕ → List ℕ → ℕ → Read ℕ
+value_at c bytes at = number_at bytes at >>= λ n. pick (no_mark c n.0) None (Some n)
 
 abbrev pub stands_at : List ℕ → ℕ → ℕ → Bool
 stands_at bytes at c = ltb at (length bytes) && eqb (get_or bytes at 0) c
@@ -49,25 +47,29 @@ stands_at bytes at c = ltb at (length bytes) && eqb (get_or bytes at 0) c
 unfoldable pub kept : Formed → ℕ → ℕ → Formed
 kept f v p =
     pick (ltb f.count most)
-    (record { read = f.read; next = p; count = f.count + 1; values = set f.values f.count v })
-    (record { read = f.read; next = p; count = f.count; values = f.values })
+    (record { next = p; count = f.count + 1; values = set f.values f.count v })
+    (record { next = p; count = f.count; values = f.values })
 
 abbrev pub moved_on : Formed → Formed
-moved_on f = record { read = f.read; next = f.next + 1; count = f.count; values = f.values }
+moved_on f = record { next = f.next + 1; count = f.count; values = f.values }
 
-unfoldable pub read_on : List ℕ → Formed → ℕ → Formed
+unfoldable pub read_on : List ℕ → Formed → ℕ → Option Formed
 read_on bytes f c =
     pick (takes_number c)
-    (after_number (value_at c bytes f.next) no_form (λ v p. kept f v p))
-    (pick (stands_at bytes f.next c) (moved_on f) no_form)
+    (value_at c bytes f.next >>= λ n. Some (kept f n.0 n.1))
+    (pick (stands_at bytes f.next c) (Some (moved_on f)) None)
 
-unfoldable pub formed : List ℕ → Formed → List ℕ → Formed
-formed bytes f [] = f
-formed bytes f (c ∷ form) = let g = read_on bytes f c in pick g.read (formed bytes g form) g
+unfoldable pub formed : List ℕ → Formed → List ℕ → Option Formed
+formed bytes f [] = Some f
+formed bytes f (c ∷ form) = read_on bytes f c >>= λ g. formed bytes g form
 
-abbrev pub form_at : List ℕ → ℕ → List ℕ → Formed
+abbrev pub form_at : List ℕ → ℕ → List ℕ → Option Formed
 form_at bytes at form = formed bytes (begun at) form
 
 -- the line and the form end together
-abbrev pub form_of : List ℕ → List ℕ → Formed
-form_of line form = pick (eqb (form_at line 0 form).next (length line)) (form_at line 0 form) no_form
+abbrev pub form_of : List ℕ → List ℕ → Option Formed
+form_of line form = form_at line 0 form >>= λ f. pick (eqb f.next (length line)) (Some f) None
+
+abbrev pub values_of : Option Formed → List ℕ
+values_of None = zeros
+values_of (Some f) = f.values

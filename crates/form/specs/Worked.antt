@@ -3,20 +3,17 @@
 --   picked c == whether a form is found, which, and the numbers
 --   cases    == each kind of byte of a form, met and missed; marks; a line that goes on; a number that is none
 --   choices  == the first form of several, none, one that is not ended; a form that follows another not at all, twice, too often, and not to the end
-use Rattle.std.specs.Prelude.{Bool, true, false, List, [], ◌∷◌, ℕ}
+use Rattle.std.specs.Prelude.{List, [], ◌∷◌, ℕ, Option, Some, None}
 use Rattle.text.specs.Ascii.{ascii}
 use Rattle.text.specs.Worked.{Case}
 use Rattle.form.specs.declared.Formed.{Formed}
 use Rattle.form.specs.declared.Chosen.{Chosen}
-use Rattle.form.specs.Form.{form_at, form_of}
+use Rattle.form.specs.Form.{zeros, form_at, form_of}
 use Rattle.form.specs.Choice.{chosen, repeats}
 
-abbrev pub flag : Bool → ℕ
-flag true = 1
-flag false = 0
-
-abbrev pub shown : Formed → List ℕ
-shown f = flag f.read ∷ f.next ∷ f.count ∷ f.values
+abbrev pub shown : Option Formed → List ℕ
+shown None = 0 ∷ 0 ∷ 0 ∷ zeros
+shown (Some f) = 1 ∷ f.next ∷ f.count ∷ f.values
 
 abbrev pub nothing : List ℕ
 nothing = 0 ∷ 0 ∷ 0 ∷ 0 ∷ 0 ∷ 0 ∷ 0 ∷ 0 ∷ []
@@ -39,8 +36,9 @@ cases =
     ∷ record { got = shown (form_of [] (ascii "step")); due = nothing }
     ∷ []
 
-abbrev pub picked : Chosen → List ℕ
-picked c = flag c.found ∷ c.at ∷ c.values
+abbrev pub picked : Option Chosen → List ℕ
+picked None = 0 ∷ 0 ∷ zeros
+picked (Some c) = 1 ∷ c.at ∷ c.values
 
 abbrev pub choices : List Case
 choices =

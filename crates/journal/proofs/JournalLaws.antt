@@ -9,8 +9,7 @@ use borrow.Author.Tests.{le-leb, lt-leb}
 use lib.ListN.{length, get_or, take, drop, length-map, length-append, take-append-drop}
 use lib.Seq.{take-suc, length-take-le}
 use Rattle.device.specs.declared.Write.{Write}
-use Rattle.text.specs.declared.Put.{Put}
-use Rattle.text.specs.declared.Put.TheVariants.{At, Full}
+use Rattle.std.proofs.Common.{Option, Some, None}
 use Rattle.text.specs.Line.{lines, log_text}
 use Rattle.text.specs.Put.{over}
 use Rattle.text.proofs.PutLaws.{over_over}
@@ -18,11 +17,11 @@ use Rattle.text.proofs.LogLaws.{log_last}
 use Rattle.journal.specs.Journal.{triple_of, write_text, log_of, put_log, after_log}
 
 -- ---- an answer known in two ways
-pub one_place : {r : Put} {p q : ℕ} → r ≡ At p → r ≡ At q → p ≡ q
+pub one_place : {r : Option ℕ} {p q : ℕ} → r ≡ Some p → r ≡ Some q → p ≡ q
 one_place d e = cc
 
-pub not_full : {r : Put} {q : ℕ} → r ≡ Full → r ≡ At q → ⊥
-not_full d e = let y : ◌≡◌ {A = ℕ} 0 1 = cc in omega arith
+pub not_full : {r : Option ℕ} {q : ℕ} → r ≡ None → r ≡ Some q → ⊥
+not_full d e = cc
 
 -- ---- the text
 map-append : {A B : Type 0} (f : A → B) (xs ys : List A) → map f (xs ++ ys) ≡ map f xs ++ map f ys
@@ -53,16 +52,16 @@ module _ (out : List ℕ) (at : ℕ) (log : List Write) where
       (rw (add-one, log_more log i d h, length-append, add_assoc), rw (add-one, log_more log i d h) (over_over out at s room t))
 
   -- the answer and the buffer where the longest log has room, and where it hasn't
-  pub log_fits : at + 600 ≤ length out → (At (at + length (log_of log)) ≡ put_log out at log) × (over out at (log_of log) ≡ after_log out at log)
+  pub log_fits : at + 600 ≤ length out → (Some (at + length (log_of log)) ≡ put_log out at log) × (over out at (log_of log) ≡ after_log out at log)
   unfolding put_log after_log
   log_fits h = (rw (le-leb _ _ h), rw (le-leb _ _ h))
 
-  pub log_full : length out < at + 600 → (Full ≡ put_log out at log) × (out ≡ after_log out at log)
+  pub log_full : length out < at + 600 → (None ≡ put_log out at log) × (out ≡ after_log out at log)
   unfolding put_log after_log
   log_full h = (rw (lt-leb _ _ h), rw (lt-leb _ _ h))
 
   -- a buffer keeps its length, so the place after the log is within it
-  pub log_within : {p : ℕ} → at + 600 ≤ length out → put_log out at log ≡ At p → length (after_log out at log) ≡ length out → p ≤ length out
+  pub log_within : {p : ℕ} → at + 600 ≤ length out → put_log out at log ≡ Some p → length (after_log out at log) ≡ length out → p ≤ length out
   log_within h e k =
       let f = log_fits h in
       let there = one_place e (sym f.0) in

@@ -3,13 +3,11 @@
 --   write_text i w       == the line of the write w, counted i
 --   log_of log           == the text of a log: its lines, counted from 0
 --   longest_log          == 600 bytes: ten lines, each of at most 60
---   put_log out at log   == the place after the log where 600 bytes are left, else that the buffer is full
+--   put_log out at log   == the place after the log where 600 bytes are left
 --   after_log out at log == the buffer then: with the log in it where 600 bytes are left, else as it was
-use Rattle.std.specs.Prelude.{Bool, List, map, ℕ, ◌+◌, leb, length}
+use Rattle.std.specs.Prelude.{Bool, List, map, ℕ, ◌+◌, leb, length, Option, Some, None}
 use Rattle.laws.specs.Pick.{pick}
 use Rattle.device.specs.declared.Write.{Write}
-use Rattle.text.specs.declared.Put.{Put}
-use Rattle.text.specs.declared.Put.TheVariants.{At, Full}
 use Rattle.text.specs.Line.{Triple, numbered, line_text, log_text}
 use Rattle.text.specs.Put.{over}
 
@@ -32,8 +30,8 @@ log_of log = log_text (map triple_of log)
 abbrev pub roomy : List ℕ → ℕ → Bool
 roomy out at = leb (at + longest_log) (length out)
 
-unfoldable pub put_log : List ℕ → ℕ → List Write → Put
-put_log out at log = pick (roomy out at) (At (at + length (log_of log))) Full
+unfoldable pub put_log : List ℕ → ℕ → List Write → Option ℕ
+put_log out at log = pick (roomy out at) (Some (at + length (log_of log))) None
 
 unfoldable pub after_log : List ℕ → ℕ → List Write → List ℕ
 after_log out at log = pick (roomy out at) (over out at (log_of log)) out

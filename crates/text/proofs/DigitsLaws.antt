@@ -1,7 +1,7 @@
 -- The digits of n: below 10 its one digit, else those of n / 10 and then the digit n % 10, since ten are enough for both. From these two
 -- equations, by induction on n / 10: digits only, none of them a leading zero, and as few as n needs. Assumes nothing.
 use mathlib.Core.Path.{◌≡◌, refl, ap}
-use mathlib.Core.Bool.{Bool, true, false, ◌&&◌}
+use mathlib.Core.Bool.{true, false}
 use mathlib.Core.List.{List, [], ◌∷◌, ◌++◌}
 use Prim.Native.Nat.{ℕ, zero, suc, ◌+◌, ◌/◌, ◌%◌, ◌^◌, ◌≤◌, ◌<◌}
 use native.Mathlib.Nat.{le_refl, pow-suc}
@@ -10,7 +10,7 @@ use native.Mathlib.Omega.{arith}
 use borrow.Author.Tests.{lt-ltb, le-ltb, le-leb, ne_eqb}
 use lib.ListN.{length, get_or, length-append, get_or-append}
 use Rattle.laws.proofs.BoolLaws.{and_left, and_right}
-use Rattle.text.specs.Digits.{zero_byte, largest, spelt, digits, is_digit}
+use Rattle.text.specs.Digits.{zero_byte, largest, spelt, digits, is_digit, all_digits}
 use Rattle.text.specs.Read.{any, leading_zero}
 
 -- ---- the two equations
@@ -43,10 +43,6 @@ by_digits P one more n = go n n (le_refl n)
         by (no l) rest = more m s (omega arith) rest
 
 -- ---- digits only
-abbrev pub all_digits : List ℕ → Bool
-all_digits [] = true
-all_digits (b ∷ bs) = is_digit b && all_digits bs
-
 pub is_digit_lem : (d : ℕ) → d < 10 → is_digit (zero_byte + d) ≡ true
 is_digit_lem d h = rw (le-leb zero_byte (zero_byte + d) (omega arith), le-leb (zero_byte + d) (zero_byte + 9) (omega arith))
 

@@ -2,24 +2,26 @@
 -- has the form of a number is the digits of its value. Assumes nothing.
 use mathlib.Core.Path.{◌≡◌, refl, sym, ◌∙◌, ap, ap₂}
 use mathlib.Core.Logic.{◌↔◌}
-use mathlib.Core.Bool.{Bool, true, false}
+use mathlib.Core.Bool.{Bool, true, false, not, ◌&&◌}
 use mathlib.Core.List.{List, ◌++◌, append-nil}
-use Prim.Native.Nat.{ℕ, ◌+◌, ◌≤◌}
+use Prim.Native.Nat.{ℕ, ◌+◌, ◌≤◌, ◌<◌}
 use native.Mathlib.Omega.{arith}
 use borrow.Author.Tests.{le-ltb, ltb-false}
 use lib.Dec.{ltb}
-use lib.ListN.{length, get_or, drop}
+use lib.ListN.{length, get_or, drop, drop_of_length-le}
 use lib.Seq.{drop-drop}
 use Rattle.laws.specs.Pick.{pick}
-use Rattle.text.specs.declared.Number.TheVariants.{Value, Nothing}
+use Rattle.std.proofs.Common.{Option, Some, None}
+use Rattle.std.specs.Option.{option_map}
+use Rattle.std.specs.List.{slice_range}
 use Rattle.text.specs.Digits.{largest, digits, is_digit, run, value}
 use Rattle.text.specs.Put.{over, after}
-use Rattle.text.specs.Read.{any, leading_zero, number_of, number_at, Stands}
+use Rattle.text.specs.Read.{Read, any, leading_zero, value_within, sized, number_of, number_at, Stands}
 use Rattle.text.proofs.DigitsLaws.{all_digits_lem, any_digits, no_leading_zero}
 use Rattle.text.proofs.RunLaws.{run_all, run_none, all_run, run_split}
 use Rattle.text.proofs.ValueLaws.{value_digits, digits_value}
-use Rattle.text.proofs.PutLaws.{put_fits}
-use Rattle.text.proofs.StandsLaws.{get_or-first, stands_between, first_after, stands_put, first_over}
+use Rattle.text.proofs.PutLaws.{to_the_end, put_fits}
+use Rattle.text.proofs.StandsLaws.{read_one, get_or-first, stands_between, first_after, stands_put, first_over}
 
 -- the number v stands at a place, whole, and p is the place after it
 pub record NumberStands (bytes : List ℕ) (at v p : ℕ) : Type 0 where
@@ -27,35 +29,56 @@ pub record NumberStands (bytes : List ℕ) (at v p : ℕ) : Type 0 where
   pub here : Stands bytes at (digits v) p
   pub ends : is_digit (get_or bytes p 0) ≡ false
 
+-- ---- the number of the run that a routine found
+module _ (bytes : List ℕ) (at : ℕ) where
+  pub number_beyond : length bytes < at → None ≡ number_at bytes at
+  unfolding number_at run
+  number_beyond h = let l : length bytes ≤ at = omega arith in rw (drop_of_length-le bytes l)
+
+  pub number_run : (s ds : List ℕ) (f : Bool) → s ≡ slice_range bytes at (length bytes) → ds ≡ run s → f ≡ (any ds && not (leading_zero ds)) → pick f (sized ds at) None ≡ number_at bytes at
+  unfolding number_at
+  number_run s ds f e r t =
+      rw t (by (any ds) (leading_zero ds)) ∙ ap (λ (l : List ℕ). number_of l at) (r ∙ ap run (e ∙ to_the_end bytes at refl))
+    where
+      by : (a z : Bool) → pick {X = Read ℕ} (a && not z) (sized ds at) None ≡ pick a (pick z None (sized ds at)) None
+      by true true = refl
+      by true false = refl
+      by false z = refl
+
+-- and its value, with the place after it
+pub value_sized : (ds : List ℕ) (at : ℕ) (r : Option ℕ) → r ≡ value_within ds → option_map (λ v. (v, at + length ds)) r ≡ sized ds at
+value_sized ds at r e = rw e (by (ltb largest (value ds)))
+  where
+    by : (l : Bool) → option_map (λ v. (v, at + length ds)) (pick l None (Some (value ds))) ≡ pick {X = Read ℕ} l None (Some (value ds, at + length ds))
+    by true = refl
+    by false = refl
+
 -- ---- what is written is read
-of_digits : (v at : ℕ) → v ≤ largest → number_of (digits v) at ≡ Value v (at + length (digits v))
+of_digits : (v at : ℕ) → v ≤ largest → number_of (digits v) at ≡ Some (v, at + length (digits v))
 of_digits v at h = rw (any_digits v h, no_leading_zero v h, value_digits v h, le-ltb largest v h)
 
-number_reads : (bytes : List ℕ) (at v p : ℕ) → NumberStands bytes at v p → number_at bytes at ≡ Value v p
+number_reads : (bytes : List ℕ) (at v p : ℕ) → NumberStands bytes at v p → number_at bytes at ≡ Some (v, p)
 unfolding number_at
 number_reads bytes at v p w =
-    ap (λ (ds : List ℕ). number_of ds at) whole ∙ of_digits v at w.small ∙ ap (λ (q : ℕ). Value v q) (sym w.here.next)
+    ap (λ (ds : List ℕ). number_of ds at) whole ∙ of_digits v at w.small ∙ ap (λ (q : ℕ). Some (v, q)) (sym w.here.next)
   where
     whole : run (drop at bytes) ≡ digits v
     whole = rw (w.here.text, run_all (digits v) (drop p bytes) (all_digits_lem v w.small), run_none bytes p w.ends) (append-nil (digits v))
 
 -- ---- only what is so written is read
 module _ (ds : List ℕ) (at v p : ℕ) where
-  refused : {X : Type 0} → Nothing ≡ Value v p → X
-  refused e = let z : ◌≡◌ {A = ℕ} 0 1 = cc in absurd (omega arith)
-
-  tests : number_of ds at ≡ Value v p → (any ds ≡ true) × (leading_zero ds ≡ false) × (value ds ≤ largest) × (value ds ≡ v) × (at + length ds ≡ p)
+  tests : number_of ds at ≡ Some (v, p) → (any ds ≡ true) × (leading_zero ds ≡ false) × (value ds ≤ largest) × (value ds ≡ v) × (at + length ds ≡ p)
   tests = by (any ds) (leading_zero ds) (ltb largest (value ds)) refl refl refl
     where
       by : (a z l : Bool) → any ds ≡ a → leading_zero ds ≡ z → ltb largest (value ds) ≡ l →
-          pick a (pick z Nothing (pick l Nothing (Value (value ds) (at + length ds)))) Nothing ≡ Value v p →
+          pick {X = Read ℕ} a (pick z None (pick l None (Some (value ds, at + length ds)))) None ≡ Some (v, p) →
           (any ds ≡ true) × (leading_zero ds ≡ false) × (value ds ≤ largest) × (value ds ≡ v) × (at + length ds ≡ p)
-      by true false false a z l e = (a, z, ltb-false largest (value ds) l, cc, cc)
-      by true false true a z l e = refused e
-      by true true l a z k e = refused e
-      by false z l a y k e = refused e
+      by true false false a z l e = (a, z, ltb-false largest (value ds) l, (read_one e).0, (read_one e).1)
+      by true false true a z l e = cc
+      by true true l a z k e = cc
+      by false z l a y k e = cc
 
-number_read : (bytes : List ℕ) (at v p : ℕ) → number_at bytes at ≡ Value v p → NumberStands bytes at v p
+number_read : (bytes : List ℕ) (at v p : ℕ) → number_at bytes at ≡ Some (v, p) → NumberStands bytes at v p
 unfolding number_at
 number_read bytes at v p e =
     let bs = drop at bytes in
@@ -68,17 +91,17 @@ number_read bytes at v p e =
       ends = sym (ap is_digit (ap (λ (l : List ℕ). get_or l 0 0) left ∙ get_or-first p bytes)) ∙ (run_split bs).1;
     }
 
-pub number_exactly : (bytes : List ℕ) (at v p : ℕ) → (number_at bytes at ≡ Value v p) ↔ NumberStands bytes at v p
+pub number_exactly : (bytes : List ℕ) (at v p : ℕ) → (number_at bytes at ≡ Some (v, p)) ↔ NumberStands bytes at v p
 number_exactly bytes at v p = (number_read bytes at v p, number_reads bytes at v p)
 
 -- ---- the round trip, whatever follows that is no digit
-pub number_back : (pre rest : List ℕ) (n : ℕ) → n ≤ largest → is_digit (get_or rest 0 0) ≡ false → number_at (pre ++ digits n ++ rest) (length pre) ≡ Value n (length pre + length (digits n))
+pub number_back : (pre rest : List ℕ) (n : ℕ) → n ≤ largest → is_digit (get_or rest 0 0) ≡ false → number_at (pre ++ digits n ++ rest) (length pre) ≡ Some (n, length pre + length (digits n))
 number_back pre rest n h e =
     number_reads (pre ++ digits n ++ rest) (length pre) n (length pre + length (digits n))
     record { small = h; here = stands_between pre (digits n) rest; ends = ap is_digit (first_after pre (digits n) rest) ∙ e }
 
 -- the same out of a buffer that it was put into
-pub number_put_back : (out : List ℕ) (at n : ℕ) → n ≤ largest → at + length (digits n) ≤ length out → is_digit (get_or out (at + length (digits n)) 0) ≡ false → number_at (after out at (digits n)) at ≡ Value n (at + length (digits n))
+pub number_put_back : (out : List ℕ) (at n : ℕ) → n ≤ largest → at + length (digits n) ≤ length out → is_digit (get_or out (at + length (digits n)) 0) ≡ false → number_at (after out at (digits n)) at ≡ Some (n, at + length (digits n))
 number_put_back out at n h r e =
     rw (← (put_fits out at (digits n) r).1) (number_reads (over out at (digits n)) at n (at + length (digits n))
     record { small = h; here = stands_put out at (digits n) r; ends = ap is_digit (first_over out at (digits n) r) ∙ e })

@@ -8,7 +8,7 @@ use native.Mathlib.Omega.{arith}
 use borrow.Author.Tests.{le-leb, lt-leb}
 use lib.ListN.{length, get_or, take, drop, length-append, length-drop, get_or-append}
 use lib.Seq.{length-take-le, take_all, take_at, drop-append-add, drop-drop, get_or-append-add, get_or-take, get_or-drop}
-use Rattle.text.specs.declared.Put.TheVariants.{At, Full}
+use Rattle.std.proofs.Common.{Some, None}
 use Rattle.text.specs.Put.{over, put, after}
 
 -- a part to the end of the whole
@@ -16,11 +16,11 @@ pub to_the_end : (l : List ℕ) (i : ℕ) {n : ℕ} → length l ≡ n → take 
 to_the_end l i {n} e = take_all (n - i) (drop i l) (simp length-drop (omega arith))
 
 module _ (out : List ℕ) (at : ℕ) (s : List ℕ) where
-  pub put_fits : at + length s ≤ length out → (At (at + length s) ≡ put out at s) × (over out at s ≡ after out at s)
+  pub put_fits : at + length s ≤ length out → (Some (at + length s) ≡ put out at s) × (over out at s ≡ after out at s)
   unfolding put after
   put_fits h = (rw (le-leb _ _ h), rw (le-leb _ _ h))
 
-  pub put_full : length out < at + length s → (Full ≡ put out at s) × (out ≡ after out at s)
+  pub put_full : length out < at + length s → (None ≡ put out at s) × (out ≡ after out at s)
   unfolding put after
   put_full h = (rw (lt-leb _ _ h), rw (lt-leb _ _ h))
 

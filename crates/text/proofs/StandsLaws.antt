@@ -8,7 +8,8 @@ use native.Mathlib.Omega.{arith}
 use lib.ListN.{length, get_or, take, drop, length-append, length-drop}
 use lib.Seq.{length-take-le, drop-append_seam, drop_at, drop-drop, get_or-drop}
 use Rattle.text.specs.Put.{over}
-use Rattle.text.specs.Read.{Stands}
+use Rattle.std.proofs.Common.{Some}
+use Rattle.text.specs.Read.{Read, Stands}
 
 -- after s, whatever it is followed by
 after : (bytes : List ℕ) (at : ℕ) (s rest : List ℕ) → drop at bytes ≡ s ++ rest → drop (at + length s) bytes ≡ rest
@@ -29,6 +30,10 @@ module _ (bytes : List ℕ) (at : ℕ) (s t : List ℕ) (p : ℕ) where
   stands_apart w =
       let e : drop at bytes ≡ s ++ (t ++ drop p bytes) = w.text ∙ append_assoc s t (drop p bytes) in
       (stands bytes at s _ e, record { text = after bytes at s _ e; next = w.next ∙ rw (length-append, add_assoc) })
+
+-- ---- two answers of one thing read
+pub read_one : {X : Type 0} {u v : X} {p q : ℕ} → ◌≡◌ {A = Read X} (Some (u, p)) (Some (v, q)) → (u ≡ v) × (p ≡ q)
+read_one {X} {u} {v} {p} {q} e = let s : ◌≡◌ {A = X × ℕ} (u, p) (v, q) = cc in (ap (λ (r : X × ℕ). r.0) s, ap (λ (r : X × ℕ). r.1) s)
 
 -- ---- what standing tells
 pub get_or-first : (at : ℕ) (bytes : List ℕ) → get_or (drop at bytes) 0 0 ≡ get_or bytes at 0

@@ -9,9 +9,9 @@ use borrow.Author.Tests.{eqb-false}
 use lib.Dec.{eqb}
 use lib.Seq.{append_snoc}
 use Rattle.laws.proofs.BoolLaws.{and_left, and_right}
-use Rattle.text.specs.Digits.{zero_byte, largest, digits, is_digit, horner, value}
+use Rattle.text.specs.Digits.{zero_byte, largest, digits, is_digit, all_digits, horner, value}
 use Rattle.text.specs.Read.{any, leading_zero}
-use Rattle.text.proofs.DigitsLaws.{digits_one, digits_more, by_digits, all_digits}
+use Rattle.text.proofs.DigitsLaws.{digits_one, digits_more, by_digits}
 use Rattle.text.proofs.RunLaws.{digit_range, horner_grows}
 
 horner_last : (v : ℕ) (ds : List ℕ) (d : ℕ) → horner v (ds ++ (d ∷ [])) ≡ horner v ds * 10 + (d - zero_byte)

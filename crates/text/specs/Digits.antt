@@ -1,10 +1,11 @@
 -- Decimal numbers as bytes, the most significant digit first.
 --   digits n    == the bytes of n, up to the largest: no leading zero, "0" for 0
 --   is_digit b  == the byte b is one of 0 to 9
+--   all_digits  == every byte is
 --   run bs      == the longest run of digits that bs begins with
 --   horner v ds == the number that begins with the digits of v and goes on with ds
 --   value ds    == the number that the digits ds say, by Horner's rule
-use Rattle.std.specs.Prelude.{Bool, ◌&&◌, List, [], ◌∷◌, ◌++◌, ℕ, zero, suc, ◌+◌, ◌-◌, ◌*◌, ◌/◌, ◌%◌, leb, ltb}
+use Rattle.std.specs.Prelude.{Bool, true, ◌&&◌, List, [], ◌∷◌, ◌++◌, ℕ, zero, suc, ◌+◌, ◌-◌, ◌*◌, ◌/◌, ◌%◌, leb, ltb}
 use Rattle.laws.specs.Pick.{pick}
 
 -- the byte of 0; those of 1 to 9 follow it
@@ -29,6 +30,10 @@ digits n = spelt (most_digits - 1) n
 
 abbrev pub is_digit : ℕ → Bool
 is_digit b = leb zero_byte b && leb b (zero_byte + 9)
+
+abbrev pub all_digits : List ℕ → Bool
+all_digits [] = true
+all_digits (b ∷ bs) = is_digit b && all_digits bs
 
 unfoldable pub run : List ℕ → List ℕ
 run [] = []

@@ -4,17 +4,11 @@
 --   log_text ws           == the lines of the triples ws, counted from 0
 --   field_at bytes at key == the number behind a key that stands at a place, and the place after it
 --   line_at bytes at      == the line that stands at a place, and the place after it
-use Rattle.std.specs.Prelude.{List, [], ◌∷◌, ◌++◌, ℕ, suc}
-use Rattle.text.specs.declared.Found.{Found}
-use Rattle.text.specs.declared.Found.TheVariants as found
-use Rattle.text.specs.declared.Number.{Number}
-use Rattle.text.specs.declared.Number.TheVariants as number
+use Rattle.std.specs.Prelude.{List, [], ◌∷◌, ◌++◌, ℕ, suc, Some}
 use Rattle.text.specs.declared.Line.{Line}
-use Rattle.text.specs.declared.LineRead.{LineRead}
-use Rattle.text.specs.declared.LineRead.TheVariants as read
 use Rattle.text.specs.Ascii.{ascii}
 use Rattle.text.specs.Digits.{digits}
-use Rattle.text.specs.Read.{newline, number_at, word_at}
+use Rattle.text.specs.Read.{Read, ◌>>=◌, newline, number_at, word_at}
 
 -- ---- the words of a line
 abbrev pub n_key : List ℕ
@@ -56,22 +50,14 @@ unfoldable pub log_text : List Triple → List ℕ
 log_text ws = lines (λ i w. line_text (numbered i w)) 0 ws
 
 -- ---- a line read back
-abbrev pub after_word : {X : Type 0} → Found → X → (ℕ → X) → X
-after_word found.Nothing none go = none
-after_word (found.At p) none go = go p
+unfoldable pub field_at : List ℕ → ℕ → List ℕ → Read ℕ
+field_at bytes at key = word_at bytes at key >>= number_at bytes
 
-abbrev pub after_number : {X : Type 0} → Number → X → (ℕ → ℕ → X) → X
-after_number number.Nothing none go = none
-after_number (number.Value v p) none go = go v p
-
-unfoldable pub field_at : List ℕ → ℕ → List ℕ → Number
-field_at bytes at key = after_word (word_at bytes at key) number.Nothing (λ p. number_at bytes p)
-
-unfoldable pub line_at : List ℕ → ℕ → LineRead
-line_at bytes at =
-    after_number (field_at bytes at n_key) read.Nothing (λ n p.
-    after_number (field_at bytes p rnr_key) read.Nothing (λ rnr q.
-    after_number (field_at bytes q rbar_key) read.Nothing (λ rbar r.
-    after_number (field_at bytes r rasr_key) read.Nothing (λ rasr s.
-    after_word (word_at bytes s end_key) read.Nothing (λ next.
-    read.Text (record { n = n; rnr = rnr; rbar = rbar; rasr = rasr }) next)))))
+unfoldable pub line_at : List ℕ → ℕ → Read Line
+line_at bytes at = do
+  (n, p) ← field_at bytes at n_key
+  (rnr, q) ← field_at bytes p rnr_key
+  (rbar, r) ← field_at bytes q rbar_key
+  (rasr, s) ← field_at bytes r rasr_key
+  next ← word_at bytes s end_key
+  Some (record { n = n; rnr = rnr; rbar = rbar; rasr = rasr }, next)

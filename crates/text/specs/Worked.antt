@@ -1,37 +1,27 @@
 -- Worked cases as data: what a definition gives, and what is due.
---   log01             == the first three writes of document 01's log
---   cases             == its text; the edges of a number, written and read; bytes put where they fit and where not; a newline and a word, found and not
---   answered r        == the number and the place after it, nothing where there is none
---   placed r, found r == the place, nothing where there is none
---   same xs ys        == the two texts are alike
-use Rattle.std.specs.Prelude.{Bool, ◌&&◌, List, [], ◌∷◌, ℕ, eqb, length}
-use Rattle.text.specs.declared.Put.{Put}
-use Rattle.text.specs.declared.Put.TheVariants as puts
-use Rattle.text.specs.declared.Found.{Found}
-use Rattle.text.specs.declared.Found.TheVariants as founds
-use Rattle.text.specs.declared.Number.{Number}
-use Rattle.text.specs.declared.Number.TheVariants.{Value, Nothing}
+--   log01      == the first three writes of document 01's log
+--   cases      == its text; the edges of a number, written and read; bytes put where they fit and where not; a newline and a word, found and not
+--   answered r == the number and the place after it, nothing where there is none
+--   placed r   == the place, nothing where there is none
+--   same xs ys == the two texts are alike
+use Rattle.std.specs.Prelude.{Bool, ◌&&◌, List, [], ◌∷◌, ℕ, eqb, length, Option, Some, None}
 use Rattle.text.specs.Ascii.{ascii}
 use Rattle.text.specs.Digits.{digits}
 use Rattle.text.specs.Put.{put, after}
-use Rattle.text.specs.Read.{begins, number_at, word_at, newline_from}
+use Rattle.text.specs.Read.{Read, begins, number_at, word_at, newline_from}
 use Rattle.text.specs.Line.{Triple, log_text}
 
 pub record Case : Type 0 where
   pub got : List ℕ
   pub due : List ℕ
 
-abbrev pub answered : Number → List ℕ
-answered Nothing = []
-answered (Value v p) = v ∷ p ∷ []
+abbrev pub answered : Read ℕ → List ℕ
+answered None = []
+answered (Some (v, p)) = v ∷ p ∷ []
 
-abbrev pub placed : Put → List ℕ
-placed puts.Full = []
-placed (puts.At p) = p ∷ []
-
-abbrev pub found : Found → List ℕ
-found founds.Nothing = []
-found (founds.At p) = p ∷ []
+abbrev pub placed : Option ℕ → List ℕ
+placed None = []
+placed (Some p) = p ∷ []
 
 abbrev pub same : List ℕ → List ℕ → Bool
 same xs ys = eqb (length xs) (length ys) && begins xs ys
@@ -63,9 +53,9 @@ cases =
     ∷ record { got = after (ascii "......") 5 (ascii "ab"); due = ascii "......" }
     ∷ record { got = placed (put (ascii "......") 4 (ascii "ab")); due = 6 ∷ [] }
     ∷ record { got = placed (put (ascii "......") 5 (ascii "ab")); due = [] }
-    ∷ record { got = found (newline_from (ascii "ab\ncd\n") 0); due = 2 ∷ [] }
-    ∷ record { got = found (newline_from (ascii "ab\ncd\n") 3); due = 5 ∷ [] }
-    ∷ record { got = found (newline_from (ascii "ab\ncd\n") 6); due = [] }
-    ∷ record { got = found (word_at (ascii "n=10 rnr") 4 (ascii " rnr")); due = 8 ∷ [] }
-    ∷ record { got = found (word_at (ascii "n=10 rnr") 4 (ascii " rnr=")); due = [] }
+    ∷ record { got = placed (newline_from (ascii "ab\ncd\n") 0); due = 2 ∷ [] }
+    ∷ record { got = placed (newline_from (ascii "ab\ncd\n") 3); due = 5 ∷ [] }
+    ∷ record { got = placed (newline_from (ascii "ab\ncd\n") 6); due = [] }
+    ∷ record { got = placed (word_at (ascii "n=10 rnr") 4 (ascii " rnr")); due = 8 ∷ [] }
+    ∷ record { got = placed (word_at (ascii "n=10 rnr") 4 (ascii " rnr=")); due = [] }
     ∷ []

@@ -1,6 +1,5 @@
 -- The form was read n times over, and the line goes on after each time before.
 use mathlib.Core.Path.{◌≡◌}
-use Prim.Native.Nat.{◌-◌, ◌≤◌}
 use Rattle.laws.specs.Search.{lowest}
 use Rattle.form.specs.Form.{form_at}
 use Rattle.form.specs.Choice.{times, follows}
@@ -8,7 +7,7 @@ use Rattle.form.proofs.count_repeats.Given as goal
 
 abbrev pub invariant-loop-n : goal.invariant-loop-n
 invariant-loop-n l =
-    (l.n ≤ l.m) × (l.f ≡ times l.line l.form l.n (form_at l.line 0 l.head)) × (lowest (follows l.line l.head l.form) 0 l.m ≡ lowest (follows l.line l.head l.form) l.n l.m)
-
-abbrev pub decreases-loop-n : goal.decreases-loop-n
-decreases-loop-n l = l.m - l.n
+    record {
+      read : l.f ≡ times l.line l.form l.n (form_at l.line 0 l.head);
+      left : lowest (follows l.line l.head l.form) 0 l.m ≡ lowest (follows l.line l.head l.form) l.n l.m;
+    }

@@ -1,31 +1,17 @@
--- What is chosen is what is left of it: from byte i of the forms on, after those that were tried. Assumes nothing.
-use mathlib.Core.Path.{refl, sym, ◌∙◌, ap}
-use borrow.Author.Rules.{rules}
-use Rattle.form.specs.declared.Trying.{Trying}
-use Rattle.form.proofs.ChoiceLaws.{try_found, try_next, try_within, try_end}
+-- A form is the bytes up to the next newline; where the line has it, it is chosen, and else the choice is among those behind it. Assumes nothing.
+use mathlib.Core.Path.{sym, ◌∙◌}
+use native.Mathlib.Omega.{arith}
+use Rattle.form.proofs.ChoiceLaws.{newline_within, form_found, form_next, form_end}
 use Rattle.form.proofs.read_any.Goals as goal
 
-pub returns-then-s : goal.returns-then-s
-returns-then-s c =
-    let v = c.loop-i.invariant in
-    let e = c.try_at-s.ensures in
-    rw e (sym (v.4 ∙ try_found _ _ c.loop-i.s c.loop-i.i c.loop-i-test.true v.2 v.1 (sym (ap (λ (s : Trying). s.found) e) ∙ c.if-s.true)))
+pub returns-in-Some-read_whole : goal.returns-in-Some-read_whole
+returns-in-Some-read_whole c = sym (c.loop-end.invariant.left ∙ form_found _ _ _ _ c.in-Some.ensures c.in-Some-read_whole.ensures)
 
-pub loop-i-preserved : goal.loop-i-preserved
-loop-i-preserved c =
-    let v = c.loop-i.invariant in
-    let e = c.try_at-s.ensures in
-    let h = c.loop-i-test.true in
-    let w = try_within _ _ c.loop-i.s c.loop-i.i h v.2 in (
-      search rules,
-      c.if-s.false,
-      rw e w.0,
-      rw e (w.1 v.3),
-      v.4 ∙ try_next _ _ c.loop-i.s c.loop-i.i h v.2 (sym (ap (λ (s : Trying). s.found) e) ∙ c.if-s.false) ∙ rw e,
-    )
+pub loop-end-preserved : goal.loop-end-preserved
+loop-end-preserved c =
+    let v = c.loop-end.invariant in
+    let w = newline_within _ _ c.in-Some.ensures in
+    record { passed = omega (arith, v.passed, w.0); within = omega (arith, w.1); left = v.left ∙ form_next _ _ _ _ c.in-Some.ensures c.in_default-read_whole.ensures }
 
 pub returns : goal.returns
-returns c = sym (c.loop-i.invariant.4 ∙ try_end _ _ c.loop-i.s c.loop-i.i c.loop-i-test.false)
-
-pub loop-i-init : goal.loop-i-init
-loop-i-init c = (search rules, refl, search rules, search rules, refl)
+returns c = sym (c.loop-end.invariant.left ∙ form_end _ _ _ _ c.loop-end.invariant.within c.in_default.ensures)

@@ -1,6 +1,6 @@
 -- The first i lines stand in the buffer, p is the place after them, and none took more than a line's room.
 use mathlib.Core.Path.{◌≡◌}
-use Prim.Native.Nat.{◌+◌, ◌*◌, ◌-◌, ◌≤◌}
+use Prim.Native.Nat.{◌+◌, ◌*◌, ◌≤◌}
 use lib.ListN.{length, take}
 use Rattle.text.specs.Put.{over}
 use Rattle.journal.specs.Journal.{longest_line, log_of}
@@ -8,11 +8,8 @@ use Rattle.journal.proofs.put_lines.Given as goal
 
 abbrev pub invariant-loop-i : goal.invariant-loop-i
 invariant-loop-i l =
-    (l.i ≤ 10)
-    × (l.p ≡ l.at + length (log_of (take l.i l.log)))
-    × (l.p ≤ l.at + longest_line * l.i)
-    × (l.out ≡ over l.initial.out l.at (log_of (take l.i l.log)))
-    × (length l.out ≡ length l.initial.out)
-
-abbrev pub decreases-loop-i : goal.decreases-loop-i
-decreases-loop-i l = 10 - l.i
+    record {
+      place : l.p ≡ l.at + length (log_of (take l.i l.fn.log));
+      room : l.p ≤ l.at + longest_line * l.i;
+      lines : l.out ≡ over l.initial.out l.at (log_of (take l.i l.fn.log));
+    }

@@ -1,9 +1,7 @@
 -- The text of the line is built piece by piece, each after what stands before it, and then put whole. Assumes nothing.
-use mathlib.Core.Path.{◌≡◌, sym, ◌∙◌}
+use mathlib.Core.Path.{◌≡◌, ◌∙◌}
 use native.Mathlib.Omega.{arith}
-use borrow.Author.Rules.{rules}
 use lib.ListN.{take}
-use lib.Seq.{length-take-le}
 use Rattle.text.specs.Line.{end_key, line_text}
 use Rattle.text.proofs.PutLaws.{take_over}
 use Rattle.text.proofs.put_line.Goals as goal
@@ -16,9 +14,6 @@ unfolding line_text
 whole c =
     rw (c.copy-e.ensures.0, c.copy-e.ensures.1) (take_over c.put_field-d.new.out c.put_field-d.result end_key (omega arith)
     ∙ rw (c.put_field-d.ensures.1, c.put_field-c.ensures.1, c.put_field-b.ensures.1, c.put_field-a.ensures.1))
-
-pub slice_bounds-put_bytes-end : goal.slice_bounds-put_bytes-end
-slice_bounds-put_bytes-end c = let t = c.copy-e in sym (length-take-le t.result t.new.out (search rules))
 
 pub returns : goal.returns
 returns c = rw (whole (goal.at.returns c).After-copy-e) at c.put_bytes.ensures
