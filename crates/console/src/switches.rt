@@ -1,56 +1,44 @@
 // The switch record: the ten writes, a switch whole or in steps, triples made by hand.
 use crate::print;
-use commands::ToSwitch;
-use device::Mpu;
+use commands::{Console, ToSwitch};
+use refusal::{Refused, settled};
 use std::io;
-use switch::{Did, Switch};
+use switch::{Progress, Switch};
 use table::Table;
 
+// Zeros where they are refused.
 pub fn writes(rt: &impl Print, t: Table, part: u32) -> io::Result<()> {
-    let s = sequence::program_partition(t, part);
-    let ws = s.writes;
-    print::number(rt, s.no)?;
-    print::log(rt, ws)
+    let answer = sequence::program_partition(t, part);
+    print::number(rt, &answer)?;
+    print::log(rt, answer.unwrap_or_default())
 }
 
-pub fn show(rt: &impl Print, s: Switch) -> io::Result<()> {
-    let ws = s.writes;
-    let log = s.log;
-    print::key(rt, "at=", s.position)?;
-    print::end(rt)?;
-    print::log(rt, ws)?;
-    print::log(rt, log)
+pub fn show(rt: &impl Print, s: &Switch) -> io::Result<()> {
+    println!(rt; "at={}", s.position)?;
+    print::log(rt, s.writes)?;
+    print::log(rt, s.log)
 }
 
-// The answer to a change of this record.
-pub fn change(rt: &impl Print, k: ToSwitch, t: Table, s: Switch) -> io::Result<()> {
-    let m = s.mpu;
+// The answer to a change of this console's switch.
+pub fn change(rt: &impl Print, k: ToSwitch, c: &Console) -> io::Result<()> {
+    let m = c.switch.mpu;
     match k {
-        ToSwitch::Start(part) => print::number(rt, switch::start(m, t, part).no),
-        ToSwitch::Step => step(rt, s),
-        ToSwitch::Whole(part) => whole(rt, m, t, part),
-        ToSwitch::HandTriple(_, _) => print::number(rt, 0),
-        ToSwitch::HandAt(_) => print::number(rt, 0),
+        ToSwitch::Start(part) => print::number(rt, &switch::start(m, c.table, part)),
+        ToSwitch::Step => step(rt, switch::step(c.switch)),
+        ToSwitch::Whole(part) => whole(rt, switch::switch_to_partition(m, c.table, part)),
+        ToSwitch::HandTriple(..) | ToSwitch::HandAt(_) => print::done(rt),
     }
 }
 
-fn whole(rt: &impl Print, m: Mpu, t: Table, part: u32) -> io::Result<()> {
-    let b = switch::switch_to_partition(m, t, part);
-    let n = b.switch;
-    let log = n.log;
-    print::number(rt, b.no)?;
-    print::log(rt, log)
+fn whole(rt: &impl Print, answer: Result<Switch, Refused<Switch>>) -> io::Result<()> {
+    print::number(rt, &answer)?;
+    print::log(rt, settled(answer).log)
 }
 
-fn step(rt: &impl Print, s: Switch) -> io::Result<()> {
-    let done = switch::step(s);
-    let did = done.did;
-    let n = done.switch;
-    match did {
-        Did::Wrote => print::word(rt, "wrote")?,
-        Did::Finished => print::word(rt, "finished")?,
-        Did::Refused(no) => print::key(rt, "no=", no)?,
+fn step(rt: &impl Print, answer: Result<Progress, Refused<Switch>>) -> io::Result<()> {
+    match answer {
+        Ok(Progress::Wrote(s)) => println!(rt; "wrote at={}", s.position),
+        Ok(Progress::Finished(s)) => println!(rt; "finished at={}", s.position),
+        Err(e) => println!(rt; "no={} at={}", e.why, e.held.position),
     }
-    print::key(rt, " at=", n.position)?;
-    print::end(rt)
 }
