@@ -281,6 +281,5 @@ fn switch_form(line: &[u8]) -> Option<Command>
 fn numbers(line: &[u8], form: &[u8]) -> Option<Numbers>
     ensures { result ≡ numbers_in (form_of line.now form.now) }
 {
-    let [a, b, c, d, e] = form::read_whole(line, form)?.values;
-    Some((a, b, c, d, e))
+    Some(Numbers::from(form::read_whole(line, form)?.values))
 }

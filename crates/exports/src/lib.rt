@@ -87,6 +87,7 @@ pub extern "C" fn list_many(words: &[u32], count: u32, answers: &mut [u32])
     ensures { answers.new ≡ found_words (found_word_at words.now count) answers.old }
 {
     let each = RECORD * (count as usize);
+    // Stays: `at` goes beside i, as the laws `part_is` and `rest_is` have a list begin where the one before ends; each * i may leave 64 bits.
     let mut at = 0;
     for i in 0..answers.len() / FOUND {
         let end = end_of(words.len(), at, each);

@@ -11,7 +11,7 @@ pub const SLOTS: u32 = 8;
 pub const CELLS: usize = 32;
 
 // Stays: two types of one shape, as document 01 says: "two tuple structs over u32 with bounded constructors".
-// Stays: their bound is no invariant, and functions ask for it: `Table::entry` promises an empty entry for any number, and the edit `both_beyond_enabled` gives it one out of range.
+// Stays: their bound is no invariant, and functions ask for it: the contract of `Table::entry` promises an empty entry for any number, by the law `entry_beyond`.
 #[derive(Clone, Copy)]
 pub struct Part(u32);
 
