@@ -7,6 +7,7 @@ pub mod RuleLaws
 pub mod DecidingLaws
 pub mod JudgedLaws
 pub mod IgnoredBits
+pub mod SaysLaws
 pub mod Determined
 pub mod Worked
 pub mod NumberLaws

@@ -18,7 +18,7 @@ use Rattle.device.specs.declared.Answer.TheVariants.{Private, Unchecked, Undefin
 use Rattle.device.specs.Registers.{slot_count, allowed}
 use Rattle.device.specs.RegisterWrite.{triple_refusals, write_no, refused_no, written_of}
 use Rattle.device.specs.Permission.{row_answer}
-use Rattle.device.specs.Decision.{bad, matches, judged, decision, number_of}
+use Rattle.device.specs.Decision.{bad, matches, judged, decision, number_of, word_of}
 
 -- ---- the rows: a privileged read and write, then an unprivileged read and write
 answers : ℕ → List Answer
@@ -140,3 +140,13 @@ written_worked m = refl
 -- ---- the numbers of the answers: only a refused one has one
 numbers_worked : map number_of (Ok Private ∷ Ok Unchecked ∷ Ok Undefined ∷ Ok Permitted ∷ Ok Denied ∷ Err BadControl ∷ []) ≡ 0 ∷ 0 ∷ 0 ∷ 0 ∷ 0 ∷ 12 ∷ []
 numbers_worked = refl
+
+-- ---- the words, by their letters
+words_worked : map word_of (Private ∷ Unchecked ∷ Undefined ∷ Permitted ∷ Denied ∷ [])
+    ≡ (112 ∷ 114 ∷ 105 ∷ 118 ∷ 97 ∷ 116 ∷ 101 ∷ [])
+    ∷ (117 ∷ 110 ∷ 99 ∷ 104 ∷ 101 ∷ 99 ∷ 107 ∷ 101 ∷ 100 ∷ [])
+    ∷ (117 ∷ 110 ∷ 100 ∷ 101 ∷ 102 ∷ 105 ∷ 110 ∷ 101 ∷ 100 ∷ [])
+    ∷ (112 ∷ 101 ∷ 114 ∷ 109 ∷ 105 ∷ 116 ∷ 116 ∷ 101 ∷ 100 ∷ [])
+    ∷ (100 ∷ 101 ∷ 110 ∷ 105 ∷ 101 ∷ 100 ∷ [])
+    ∷ []
+words_worked = refl

@@ -8,7 +8,8 @@
 --   decision n m a  == the answer of the MPU m, of n slots, to the access a; refused where its control is outside the list
 --   number_of       == the number of the paper for an answer
 --   decision_no m   == the number that is due: 12 for a control outside the list
-use Rattle.std.specs.Prelude.{Bool, not, ◌&&◌, ◌||◌, List, [], ◌∷◌, ℕ, ◌+◌, ◌-◌, ◌/◌, ◌^◌, ltb, leb, eqb, Result, Ok, Err}
+--   word_of a       == the word that is printed for the answer a
+use Rattle.std.specs.Prelude.{Bool, not, ◌&&◌, ◌||◌, List, [], ◌∷◌, ℕ, ◌+◌, ◌-◌, ◌/◌, ◌^◌, ltb, leb, eqb, Result, Ok, Err, codes}
 use Rattle.laws.specs.Pick.{pick}
 use Rattle.laws.specs.Refuse.{◌⇒◌, refuse}
 use Rattle.laws.specs.Search.{some, highest}
@@ -19,7 +20,7 @@ use Rattle.device.specs.declared.Pair.{Pair}
 use Rattle.device.specs.declared.Mpu.{Mpu}
 use Rattle.device.specs.declared.Access.{Access}
 use Rattle.device.specs.declared.Answer.{Answer}
-use Rattle.device.specs.declared.Answer.TheVariants.{Private, Unchecked, Undefined}
+use Rattle.device.specs.declared.Answer.TheVariants.{Private, Unchecked, Undefined, Permitted, Denied}
 use Rattle.device.specs.Registers.{slot_at, enabled, size_field, subregions, ap_field, enables, priv_def_ena, allowed}
 use Rattle.device.specs.Permission.{answered, row_answer}
 
@@ -72,3 +73,10 @@ number_of (Err e) = number e
 
 unfoldable pub decision_no : Mpu → ℕ
 decision_no m = refuse ((not (allowed m.control) ⇒ 12) ∷ [])
+
+abbrev pub word_of : Answer → List ℕ
+word_of Private = codes "private"
+word_of Unchecked = codes "unchecked"
+word_of Undefined = codes "undefined"
+word_of Permitted = codes "permitted"
+word_of Denied = codes "denied"

@@ -2,13 +2,13 @@
 // From the ARMv7-M manual, as the paper narrows it. Every routine takes any value of its types.
 #![tactic(auto)]
 
-ghost use Rattle.std.specs.Prelude.{◌≡◌, ◌<◌, ◌/◌, ◌%◌, reverse};
+ghost use Rattle.std.specs.Prelude.{◌≡◌, ◌<◌, ◌/◌, Some, ◌%◌, reverse};
 ghost use Rattle.std.specs.List.{find, list_any};
 ghost use Rattle.device.specs.Registers.{slot_count, allowed, enabled, size_field};
 ghost use Rattle.device.specs.RegisterWrite.{triple_no, pair_of, refused_no, write_no, stored, write_register, written_of};
 ghost use Rattle.device.specs.Permission.{row_at, row_answer, answered};
 ghost use Rattle.device.specs.Packing.{packed, unpacked};
-ghost use Rattle.device.specs.Decision.{bad, matches, private_bus, unmatched, judged, decision, number_of, decision_no};
+ghost use Rattle.device.specs.Decision.{bad, matches, private_bus, unmatched, judged, decision, number_of, decision_no, word_of};
 
 use refusal::{Refusal, Refused};
 use std::fmt;
@@ -103,6 +103,8 @@ pub enum Answer {
 
 // The console's word for it.
 impl fmt::Display for Answer {
+    ghost output = { λ a. Some (word_of a) };
+
     fn fmt<W: fmt::Write>(&self, f: &mut fmt::Formatter<W>) -> fmt::Result {
         f.write_str(match self {
             Answer::Private => "private",

@@ -11,6 +11,7 @@ use Rattle.fields.specs.declared.Attributes.{Attributes}
 use Rattle.fields.proofs.size_field.Reads as size-field
 use Rattle.fields.proofs.ap_field.Reads as ap-field
 use Rattle.fields.proofs.rasr_for.Reads as rasr_for
+use Rattle.fields.proofs.value_of.Reads as value_of
 
 -- an answer is told whole by its number and its value
 field_one : (r s : Result ℕ Refusal) → field_of r ≡ field_of s → r ≡ s
@@ -25,6 +26,9 @@ ap_field_once a r s e f p q = p ∙ sym q
 rasr_for_once : (a : _) (r s : Result ℕ Refusal) (e f : _) → rasr_for.Post tt a r e → rasr_for.Post tt a s f → r ≡ s
 rasr_for_once a r s e f p q = field_one r s (p ∙ sym q)
 
+value_of_once : (a : _) (r s : ℕ) (e f : _) → value_of.Post tt a r e → value_of.Post tt a s f → r ≡ s
+value_of_once a r s e f p q = p ∙ sym q
+
 -- ---- and it is the definition's answer about the very arguments given
 size_field_asked : (n : ℕ) (r : Result ℕ Refusal) (e : _) → size-field.Post tt (n, tt) r e → field_of r ≡ size_answer n
 size_field_asked n r e q = q
@@ -34,3 +38,6 @@ ap_field_asked w r e q = q
 
 rasr_for_asked : (a : Attributes) (r : Result ℕ Refusal) (e : _) → rasr_for.Post tt (a, tt) r e → field_of r ≡ rasr_answer a
 rasr_for_asked a r e q = q
+
+value_of_asked : (a : Result ℕ Refusal) (r : ℕ) (e : _) → value_of.Post tt (a, tt) r e → r ≡ (field_of a).value
+value_of_asked a r e q = q

@@ -55,6 +55,13 @@ pub fn rasr_for(a: Attributes) -> Result<u32, Refusal>
     Ok(1 + 2 * size + AP_UNIT * ap_field(a.writable))
 }
 
+// The value beside an answer's number: 0 where it is refused.
+pub fn value_of(answer: Result<u32, Refusal>) -> u32
+    ensures { result ≡ (field_of answer).value }
+{
+    answer.unwrap_or(0)
+}
+
 // SIZE by comparison with one power after the other.
 // Stays: document 01 gives this place its form (trailing zeros) with a later request.
 #[tactic(auto, using(laws::proofs::PowerLaws::pow2_exactly, laws::proofs::PowerLaws::next_power, laws::proofs::PowerLaws::pow_below, laws::proofs::PowerLaws::pow_double, crate::proofs::ReachLaws::reached))]

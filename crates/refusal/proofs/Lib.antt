@@ -1,3 +1,4 @@
 pub mod NumberLaws
 pub mod AnswerLaws
+pub mod SaysLaws
 pub mod Determined

@@ -1,7 +1,8 @@
 // Why the box says no: a case for each number of the paper, and what a refused request hands back.
 #![tactic(auto)]
 
-ghost use Rattle.std.specs.Prelude.{◌≡◌, ℕ};
+ghost use Rattle.std.specs.Prelude.{◌≡◌, ℕ, Some};
+ghost use Rattle.std.specs.Fmt.{decimal};
 ghost use Rattle.refusal.specs.Refusal.{number, answer_no, held_by};
 
 use std::error::Error;
@@ -89,6 +90,8 @@ impl<T: Copy> From<Refused<T>> for Refusal {
 }
 
 impl fmt::Display for Refusal {
+    ghost output = { λ e. Some (decimal (number e)) };
+
     fn fmt<W: fmt::Write>(&self, f: &mut fmt::Formatter<W>) -> fmt::Result {
         write!(f, "{}", self.number())
     }

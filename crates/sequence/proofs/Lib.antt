@@ -1,4 +1,5 @@
 pub mod WritesLaws
 pub mod SoundWrites
+pub mod SaysLaws
 pub mod Determined
 pub mod Worked

@@ -32,6 +32,13 @@ pub fn program_partition(t: Table, part: u32) -> Result<[Write; WRITES], Refusal
     Ok(all_writes(&t, p))
 }
 
+// The ten writes beside that answer's number: zeros where it is refused.
+pub fn writes_of(answer: Result<[Write; WRITES], Refusal>) -> [Write; WRITES]
+    ensures { result ≡ (sequence_of answer).writes }
+{
+    answer.unwrap_or([Write::default(); WRITES])
+}
+
 fn all_writes(t: &Table, p: Part) -> [Write; WRITES]
     requires { (p.0 < parts) × (lawful slots t.now ≡ true) }
     ensures { result ≡ writes slots t.now p.0 }

@@ -21,6 +21,7 @@ use Rattle.switch.proofs.start.Reads as start
 use Rattle.switch.proofs.step.Reads as step
 use Rattle.switch.proofs.switch_to_partition.Reads as switch_to_partition
 use Rattle.switch.proofs.apply_program.Reads as apply_program
+use Rattle.switch.proofs.log_of.Reads as log_of
 
 -- ---- no two answers say the same
 started_one : (r s : Result Switch (HandedBack Switch)) → started_of r ≡ started_of s → r ≡ s
@@ -62,6 +63,9 @@ switch_to_partition_once a r s e f p q = started_one r s (p ∙ sym q)
 apply_program_once : (a : _) (r s : Result Logged (HandedBack Mpu)) (e f : _) → apply_program.Post tt a r e → apply_program.Post tt a s f → r ≡ s
 apply_program_once a r s e f p q = applied_one r s (p ∙ sym q)
 
+log_of_once : (a : _) (r s : List Write) (e f : _) → log_of.Post tt a r e → log_of.Post tt a s f → r ≡ s
+log_of_once a r s e f p q = p ∙ sym q
+
 -- ---- the answer that a contract allows is the definition's of eight slots, and so of ten writes
 idle_eight : (m : Mpu) (r : Switch) → idle.Post tt (m, tt) r (m, tt) → r ≡ fresh 8 m (no_log 8)
 idle_eight m r e = e
@@ -77,3 +81,6 @@ switch_to_partition_eight m t p r e = e
 
 apply_program_eight : (m : Mpu) (ws : List Write) (r : Result Logged (HandedBack Mpu)) → apply_program.Post tt (m, (ws, tt)) r (m, (ws, tt)) → applied_of r ≡ applied 8 m ws
 apply_program_eight m ws r e = e
+
+log_of_asked : (a : Result Logged (HandedBack Mpu)) (r : List Write) (e : _) → log_of.Post tt (a, tt) r e → r ≡ (applied_of a).log
+log_of_asked a r e q = q

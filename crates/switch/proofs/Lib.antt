@@ -1,5 +1,6 @@
 pub mod StartNo
 pub mod StepLaws
+pub mod SaysLaws
 pub mod AppliedLaws
 pub mod Determined
 pub mod RunLaws

@@ -110,6 +110,16 @@ pub fn apply_program(m: Mpu, ws: [Write; WRITES]) -> Result<Logged, Refused<Mpu>
     }
 }
 
+// The log beside that answer's number: zeros where the triples are refused.
+pub fn log_of(answer: Result<Logged, Refused<Mpu>>) -> [Write; WRITES]
+    ensures { result ≡ (applied_of answer).log }
+{
+    match answer {
+        Ok(done) => done.log,
+        Err(_) => [Write::default(); WRITES],
+    }
+}
+
 // The writes that switch this MPU to a partition, if it may take them.
 #[tactic(auto, using(crate::proofs::StartNo::sent_err, crate::proofs::StartNo::sent_12, crate::proofs::StartNo::sent_0))]
 fn writes_for(m: Mpu, t: Table, part: u32) -> Result<[Write; WRITES], Refusal>

@@ -25,6 +25,7 @@ use Rattle.table.proofs.numbers.Part.number.Reads as part_number
 use Rattle.table.proofs.numbers.Slot.new.Reads as slot_new
 use Rattle.table.proofs.numbers.Slot.number.Reads as slot_number
 use Rattle.table.proofs.EntryDefault.default.Reads as entry_default
+use Rattle.table.proofs.yes_of.Reads as yes_of
 use Rattle.table.proofs.RangeFromEntry.from.Reads as range_of_entry
 use Rattle.table.proofs.RangeFromRequest.from.Reads as range_of_request
 use Rattle.table.proofs.Table.new.Reads as table_new
@@ -64,6 +65,9 @@ try_add_region_once a r s e f p q = held_one r s (ap (λ (k : Added). k.no) (p �
 covers_addr_once : (a : _) (r s : Result Bool Refusal) (e f : _) → covers_addr.Post tt a r e → covers_addr.Post tt a s f → r ≡ s
 covers_addr_once a r s e f p q = answer_one false r s (ap (λ (k : Covered). k.no) (p ∙ sym q)) (ap (λ (k : Covered). k.yes) (p ∙ sym q))
 
+yes_of_once : (a : _) (r s : Bool) (e f : _) → yes_of.Post tt a r e → yes_of.Post tt a s f → r ≡ s
+yes_of_once a r s e f p q = p ∙ sym q
+
 lawful_once : (k : _) (a : _) (r s : Bool) (e f : _) → lawful.Post k a r e → lawful.Post k a s f → r ≡ s
 lawful_once k a r s e f p q = p ∙ sym q
 
@@ -76,6 +80,9 @@ cell_once k a r s e f p q = p ∙ sym q
 -- ---- and it is the definition's answer about the very arguments given, of eight slots: no proved caller need ask these
 covers_addr_asked : (t : Table) (p a : ℕ) (r : Result Bool Refusal) (e : _) → covers_addr.Post tt (t, (p, (a, tt))) r e → covered_of r ≡ cover_answer slots t p a
 covers_addr_asked t p a r e q = q
+
+yes_of_asked : (a : Result Bool Refusal) (r : Bool) (e : _) → yes_of.Post tt (a, tt) r e → r ≡ (covered_of a).yes
+yes_of_asked a r e q = q
 
 cell_asked : (k : _) (t : _) (i : ℕ) (r : Entry) (e : _) → cell.Post k (t, (i, tt)) r e → r ≡ cell_answer slots t.now i
 cell_asked k t i r e q = q

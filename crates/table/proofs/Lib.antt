@@ -9,5 +9,6 @@ pub mod AddLaws
 pub mod BytesLaws
 pub mod KeepLaws
 pub mod BuiltLaws
+pub mod SaysLaws
 pub mod Determined
 pub mod Worked

@@ -44,6 +44,13 @@ pub struct Request {
     pub writable: bool,
 }
 
+// The yes or no beside the number that `covers_addr` answers: no where it is refused.
+pub fn yes_of(answer: Result<bool, Refusal>) -> bool
+    ensures { result ≡ (covered_of answer).yes }
+{
+    answer.unwrap_or(false)
+}
+
 impl Entry {
     // Is it enabled, and no sound region?
     fn is_unsound(self) -> bool
