@@ -1,13 +1,14 @@
 -- A list of records is judged as its flat words are: record by record they give the same range, and there are as many. So every law of the flat form is one of
 -- this form. Assumes nothing.
 use mathlib.Core.Path.{◌≡◌, refl, sym, ◌∙◌}
-use mathlib.Core.List.{List, [], ◌∷◌}
+use mathlib.Core.List.{List, [], ◌∷◌, map}
 use Prim.Native.Nat.{ℕ, zero, suc, ◌+◌, ◌*◌}
 use native.Mathlib.Omega.{arith}
-use lib.ListN.{length, get_or}
+use lib.ListN.{length, get_or, get_or-map}
 use Rattle.region.specs.List.{record_at, records, judged}
+use Rattle.region.specs.List.{range_at as ranged}
 use Rattle.lent.specs.declared.MpuRegion.{MpuRegion}
-use Rattle.lent.specs.Records.{no_record, range_at, judged_of, words}
+use Rattle.lent.specs.Records.{no_record, range_of, range_at, judged_of, words}
 
 pub same_range : (ys : List MpuRegion) (i : ℕ) → range_at ys i ≡ record_at (words ys) i
 same_range [] i = refl
@@ -26,6 +27,10 @@ as_many ys = let e : length (words ys) ≡ 3 * length ys = three_each ys in omeg
 
 pub as_words : (ys : List MpuRegion) (n : ℕ) → judged_of ys n ≡ judged (record_at (words ys)) (records (words ys)) n
 as_words ys n = λ k. judged (λ i. same_range ys i k) (as_many ys k) n
+
+-- the list's ranges, one a record, are judged as the records are
+pub as_records : (ys : List MpuRegion) (n : ℕ) → judged (ranged (map range_of ys)) (length ys) n ≡ judged_of ys n
+as_records ys n = λ k. judged (λ i. get_or-map range_of ys i no_record k) (length ys) n
 
 -- two lists that differ in attr alone are judged alike
 pub attr_unread : (ys zs : List MpuRegion) (n : ℕ) → length ys ≡ length zs → ((i : ℕ) → ((get_or ys i no_record).base ≡ (get_or zs i no_record).base) × ((get_or ys i no_record).size ≡ (get_or zs i no_record).size)) → judged_of ys n ≡ judged_of zs n

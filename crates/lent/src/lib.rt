@@ -1,16 +1,16 @@
 // Two forms that work on what they are lent: an MPU record, of which one place is written, and a list of region records, only read. Both are thin: what decides is by value.
 #![tactic(auto)]
 
-ghost use Rattle.std.specs.Prelude.{◌≡◌, take, length};
+ghost use Rattle.std.specs.Prelude.{◌≡◌, take};
 ghost use Rattle.refusal.specs.Refusal.{no_of};
 ghost use Rattle.device.specs.Registers.{slot_count};
 ghost use Rattle.device.specs.RegisterWrite.{write_register, written_of};
 ghost use Rattle.region.specs.List.{judged_by};
-ghost use Rattle.lent.specs.Records.{range_of, range_at, judged_of};
+ghost use Rattle.lent.specs.Records.{range_of, judged_of};
 
 use device::{Mpu, Pair, Write};
 use refusal::{Refusal, Refused};
-use region::{Fault, Range, RegionList};
+use region::{Fault, Range, Record};
 
 // How many records a list passed by value has.
 pub const HELD: usize = 64;
@@ -34,21 +34,11 @@ impl From<MpuRegion> for Range {
     }
 }
 
-// The records as a list of regions.
-#[derive(Clone, Copy)]
-struct Records<'a>(&'a [MpuRegion]);
+impl Record for MpuRegion {
+    ghost range_of = { range_of };
 
-impl<'a> RegionList for Records<'a> {
-    ghost held = { λ ys. length ys.0.now };
-
-    ghost range_at = { λ ys. range_at ys.0.now };
-
-    fn count(self) -> usize {
-        self.0.len()
-    }
-
-    fn range(self, i: u32) -> Range {
-        Range::from(self.0[i as usize])
+    fn range(self) -> Range {
+        Range::from(self)
     }
 }
 
@@ -82,10 +72,11 @@ pub fn write_through(m: Mpu, w: Write) -> Result<Mpu, Refused<Mpu>>
 }
 
 // Are the first `count` of these records a valid list, and if not, which are to blame?
+#[tactic(auto, using(crate::proofs::WordsLaws::as_records))]
 pub fn validate_records(regions: &[MpuRegion], count: u32) -> Result<(), Fault>
     ensures { judged_by result ≡ judged_of regions.now count }
 {
-    region::validate_list(Records(regions), count)
+    region::validate_list(regions, count)
 }
 
 // The same question of records that I hold.

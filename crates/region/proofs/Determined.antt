@@ -17,6 +17,7 @@ use Rattle.region.specs.Sound.{region_no}
 use Rattle.region.proofs.is_power_of_two.Reads as is_power_of_two
 use Rattle.region.proofs.validate_region.Reads as validate_region
 use Rattle.region.proofs.regions_overlap.Reads as regions_overlap
+use Rattle.region.proofs.yes_of.Reads as yes_of
 use Rattle.region.proofs.ranges_meet.Reads as ranges_meet
 use Rattle.region.proofs.validate_region_set.Reads as validate_region_set
 use Rattle.region.proofs.validate_list.Reads as validate_list
@@ -30,6 +31,9 @@ validate_region_once a r s e f p q = answer_one tt r s (p ∙ sym q) refl
 regions_overlap_once : (a : _) (r s : Result Bool Refusal) (e f : _) → regions_overlap.Post tt a r e → regions_overlap.Post tt a s f → r ≡ s
 regions_overlap_once a r s e f p q = answer_one false r s (ap (λ (k : Overlap). k.no) (p ∙ sym q)) (ap (λ (k : Overlap). k.yes) (p ∙ sym q))
 
+yes_of_once : (a : _) (r s : Bool) (e f : _) → yes_of.Post tt a r e → yes_of.Post tt a s f → r ≡ s
+yes_of_once a r s e f p q = p ∙ sym q
+
 ranges_meet_once : (a : _) (r s : Bool) (e f : _) → ranges_meet.Post tt a r e → ranges_meet.Post tt a s f → r ≡ s
 ranges_meet_once a r s e f p q = p ∙ sym q
 
@@ -42,6 +46,9 @@ validate_list_once t u v w x y z κs a r s e f p q = judged_one r s (p ∙ sym q
 -- ---- and it is the definition's answer about the very arguments given: no proved caller need ask it
 regions_overlap_asked : (a b : Range) (r : Result Bool Refusal) (e : _) → regions_overlap.Post tt (a, (b, tt)) r e → overlap_of r ≡ overlap_answer a b
 regions_overlap_asked a b r e q = q
+
+yes_of_asked : (a : Result Bool Refusal) (r : Bool) (e : _) → yes_of.Post tt (a, tt) r e → r ≡ (overlap_of a).yes
+yes_of_asked a r e q = q
 
 ranges_meet_asked : (a b : Range) (r : Bool) (e : _) → ranges_meet.Post tt (a, (b, tt)) r e → r ≡ overlaps a b
 ranges_meet_asked a b r e q = q

@@ -5,5 +5,7 @@ pub mod ListLaws
 pub mod FoundLaws
 pub mod NumberLaws
 pub mod UnreadLaws
+pub mod RecordLaws
+pub mod SaysLaws
 pub mod Determined
 pub mod Worked

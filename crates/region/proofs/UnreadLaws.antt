@@ -4,7 +4,10 @@ use mathlib.Core.Path.{◌≡◌, refl, sym, ◌∙◌, ap, ap₂}
 use Prim.Native.Nat.{ℕ, ◌+◌, ◌*◌, ◌≤◌, ◌<◌, zero-le}
 use native.Mathlib.Nat.{not-suc-le-zero, not-le_of_lt}
 use native.Mathlib.Omega.{arith}
+use mathlib.Core.Bool.{Bool, true, false}
 use mathlib.Core.List.{List}
+use borrow.Author.Tests.{leb-true, leb-false}
+use lib.Dec.{leb}
 use lib.ListN.{get_or}
 use Rattle.region.specs.declared.Range.{Range}
 use Rattle.region.specs.List.{Judged, Valid, Short, Unsound, Pair, record_at, records, number_at, meeting, judged, Says}
@@ -38,6 +41,14 @@ module _ (at to : ℕ → Range) (have got n : ℕ) (h : n ≤ have) (g : n ≤ 
 
   pub same_list : judged at have n ≡ judged to got n
   same_list = sym ((list_exactly to got n (judged at have n)).1 (carry (judged at have n) ((list_exactly at have n (judged at have n)).0 refl)))
+
+-- two lists as long as each other that give the same range at each of their places
+pub same_below : (at to : ℕ → Range) (have n : ℕ) → ((i : ℕ) → i < have → at i ≡ to i) → judged at have n ≡ judged to have n
+same_below at to have n same = by (leb n have) refl
+  where
+    by : (b : Bool) → leb n have ≡ b → judged at have n ≡ judged to have n
+    by true e = let h : n ≤ have = leb-true n have e in same_list at to have have n h h (λ i l. same i (omega (arith, l, h)))
+    by false e = let h : have < n = leb-false n have e in (list_exactly at have n Short).1 h ∙ sym ((list_exactly to have n Short).1 h)
 
 -- two lists of words that hold n records each, with the same bases and sizes: whatever their attr, and whatever follows
 pub attr_unread : (ws vs : List ℕ) (n : ℕ) → n ≤ records ws → n ≤ records vs

@@ -1,5 +1,7 @@
 -- A region list: records of three words, base, size and attr; attr is never read. The first `count` are judged.
 --   record_at ws i       == record i of the words ws
+--   range_in r           == the range of one record, given as its words
+--   range_at rs i        == range i of a list of ranges
 --   culprit at n         == the lowest unsound record of n, `at` giving each
 --   pair_of at n         == the first pair of n that overlaps, or that there is none
 --   judged at have n     == what is found of n records, `at` giving each, where there are `have` of them
@@ -28,6 +30,14 @@ words_each = 3
 
 abbrev pub record_at : List ℕ → ℕ → Range
 record_at ws i = record { base = get_or ws (words_each * i) 0; size = get_or ws (words_each * i + 1) 0 }
+
+-- one record, given as its words
+abbrev pub range_in : List ℕ → Range
+range_in r = record { base = get_or r 0 0; size = get_or r 1 0 }
+
+-- range i of a list of ranges
+abbrev pub range_at : List Range → ℕ → Range
+range_at rs i = get_or rs i (record { base = 0; size = 0 })
 
 abbrev pub number_at : (ℕ → Range) → ℕ → ℕ
 number_at at i = region_no (at i).base (at i).size

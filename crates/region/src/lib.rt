@@ -2,22 +2,21 @@
 // From mpu.rs. Every routine takes any input and refuses as the paper does.
 #![tactic(auto)]
 
-ghost use Rattle.std.specs.Prelude.{◌≡◌, ℕ, ◌+◌, ◌^◌, ◌<◌, ◌≤◌, ltb};
+ghost use Rattle.std.specs.Prelude.{◌≡◌, Some, ◌+◌, ◌^◌, ◌<◌, ◌≤◌, ltb, length, map};
+ghost use Rattle.std.specs.Fmt.{decimal};
 ghost use Rattle.laws.specs.Pick.{pick};
 ghost use Rattle.laws.specs.Power.{is_pow2};
 ghost use Rattle.refusal.specs.Refusal.{no_of};
 ghost use Rattle.region.specs.declared.Range.{Range};
 ghost use Rattle.region.specs.Sound.{region_no};
 ghost use Rattle.region.specs.Overlap.{overlaps, passes, overlap_answer, overlap_of};
-ghost use Rattle.region.specs.List.{record_at, records, unsound_of, pair_of, pair_found, judged, list_no, list_places, number_of, places_of, judged_by, fault_no};
+ghost use Rattle.region.specs.List.{range_at, range_in, record_at, records, unsound_of, pair_of, pair_found, judged, list_no, list_places, number_of, places_of, judged_by, fault_no};
 
 use refusal::{Numbered, Refusal};
 use std::error::Error;
 use std::fmt;
 
 pub const MIN_REGION_SIZE: u32 = 32;
-
-const WORDS_EACH: usize = 3;
 
 const LAST_BYTE: u64 = 4294967295;
 
@@ -54,6 +53,8 @@ impl Numbered for Fault {
 }
 
 impl fmt::Display for Fault {
+    ghost output = { λ e. Some (decimal (fault_no e)) };
+
     fn fmt<W: fmt::Write>(&self, f: &mut fmt::Formatter<W>) -> fmt::Result {
         write!(f, "{}", self.number())
     }
@@ -61,35 +62,22 @@ impl fmt::Display for Fault {
 
 impl Error for Fault {}
 
-// A list of regions that is lent: how many whole records it has, and where each lies.
-pub trait RegionList: Copy {
-    ghost held: { Self → ℕ };
+// One record of a list of regions, and where its region lies.
+pub trait Record: Copy {
+    ghost range_of: { Self → Range };
 
-    ghost range_at: { Self → ℕ → Range };
-
-    fn count(self) -> usize
-        ensures { result ≡ held self };
-
-    fn range(self, i: u32) -> Range
-        requires { i < held self }
-        ensures { result ≡ range_at self i };
+    fn range(self) -> Range
+        ensures { result ≡ range_of self };
 }
 
-// Flat words, three a record: base, size and attr, which is never read.
-impl<'a> RegionList for &'a [u32] {
-    ghost held = { λ ws. records ws.now };
+// Three flat words: base, size and attr, which is never read.
+impl Record for [u32; 3] {
+    ghost range_of = { range_in };
 
-    ghost range_at = { λ ws. record_at ws.now };
-
-    fn count(self) -> usize {
-        self.len() / WORDS_EACH
-    }
-
-    fn range(self, i: u32) -> Range {
-        let at = WORDS_EACH * i as usize;
+    fn range(self) -> Range {
         Range {
-            base: self[at],
-            size: self[at + 1],
+            base: self[0],
+            size: self[1],
         }
     }
 }
@@ -133,22 +121,29 @@ pub fn regions_overlap(a: Range, b: Range) -> Result<bool, Refusal>
     Ok(ranges_meet(a, b))
 }
 
+// The yes or no beside that answer's number: no where it is refused.
+pub fn yes_of(answer: Result<bool, Refusal>) -> bool
+    ensures { result ≡ (overlap_of answer).yes }
+{
+    answer.unwrap_or(false)
+}
+
 // Is this a valid list, each region sound and no two overlapping? Records of three words, base, size and attr; the first `count` are judged.
-#[tactic(auto, using(crate::proofs::ListLaws::number_due, crate::proofs::ListLaws::places_due))]
 pub fn validate_region_set(words: &[u32], count: u32) -> Result<(), Fault>
     ensures answer { judged_by result ≡ judged (record_at words.now) (records words.now) count }
     ensures number { number_of (judged_by result) ≡ list_no (record_at words.now) (records words.now) count }
     ensures places { places_of (judged_by result) ≡ list_places (record_at words.now) (records words.now) count }
 {
-    validate_list(words, count)
+    let (whole, _) = words.as_chunks::<3>();
+    validate_list(whole, count)
 }
 
-// The same question of any list.
+// The same question of any list of records.
 #[tactic(auto, unfolding(crate::specs::List::judged, crate::specs::List::unsound_of))]
-pub fn validate_list<L: RegionList>(list: L, count: u32) -> Result<(), Fault>
-    ensures { judged_by result ≡ judged (L.range_at list) (L.held list) count }
+pub fn validate_list<R: Record>(list: &[R], count: u32) -> Result<(), Fault>
+    ensures { judged_by result ≡ judged (range_at (map R.range_of list.now)) (length list.now) count }
 {
-    if list.count() < count as usize {
+    if list.len() < count as usize {
         return Err(Fault::Short);
     }
     each_sound(list, count)?;
@@ -160,12 +155,12 @@ pub fn validate_list<L: RegionList>(list: L, count: u32) -> Result<(), Fault>
 
 // Is each of the first n records sound? If not, the lowest that is not.
 #[tactic(auto, using(laws::proofs::SearchLaws::lowest_here, laws::proofs::SearchLaws::lowest_next, laws::proofs::SearchLaws::lowest_end), unfolding(crate::specs::List::unsound_of))]
-fn each_sound<L: RegionList>(list: L, n: u32) -> Result<(), Fault>
-    requires { n ≤ L.held list }
-    ensures { judged_by result ≡ unsound_of (L.range_at list) n }
+fn each_sound<R: Record>(list: &[R], n: u32) -> Result<(), Fault>
+    requires { n ≤ length list.now }
+    ensures { judged_by result ≡ unsound_of (range_at (map R.range_of list.now)) n }
 {
     for i in 0..n {
-        let r = list.range(i);
+        let r = range_at(list, i);
         validate_region(r.base, r.size).map_err(|why| Fault::Unsound { at: i, why })?;
     }
     Ok(())
@@ -173,21 +168,30 @@ fn each_sound<L: RegionList>(list: L, n: u32) -> Result<(), Fault>
 
 // The first pair that overlaps: lowest i, then lowest j.
 #[tactic(auto, using(laws::proofs::SearchLaws::lowest_next, laws::proofs::SearchLaws::lowest_end, laws::proofs::PairLaws::pair_next, crate::proofs::FoundLaws::pair_there, crate::proofs::FoundLaws::pair_end))]
-fn first_pair<L: RegionList>(list: L, n: u32) -> Option<(u32, u32)>
-    requires { n ≤ L.held list }
-    ensures { pair_found result ≡ pair_of (L.range_at list) n }
+fn first_pair<R: Record>(list: &[R], n: u32) -> Option<(u32, u32)>
+    requires { n ≤ length list.now }
+    ensures { pair_found result ≡ pair_of (range_at (map R.range_of list.now)) n }
 {
     'pairs: {
         for i in 0..n {
-            let a = list.range(i);
+            let a = range_at(list, i);
             for j in i + 1..n {
-                if ranges_meet(a, list.range(j)) {
+                if ranges_meet(a, range_at(list, j)) {
                     break 'pairs Some((i, j));
                 }
             }
         }
         None
     }
+}
+
+// Range i of the list.
+#[tactic(auto, using(crate::proofs::RecordLaws::range_there))]
+fn range_at<R: Record>(list: &[R], i: u32) -> Range
+    requires { i < length list.now }
+    ensures { result ≡ range_at (map R.range_of list.now) i }
+{
+    list[i as usize].range()
 }
 
 // The formula of the paper alone, in whole numbers: no sum wraps, nothing is refused. Each test of it is a number, 0 where it holds and 1 where it fails,

@@ -2,13 +2,14 @@
 use mathlib.Core.Path.{◌≡◌}
 use Prim.Native.Nat.{◌+◌}
 use Rattle.laws.specs.Search.{lowest, paired, pair_low}
-use Rattle.region.specs.List.{meeting}
+use mathlib.Core.List.{map}
+use Rattle.region.specs.List.{meeting, range_at}
 use Rattle.region.proofs.first_pair.Given as goal
 
 abbrev pub invariant-loop-j : goal.invariant-loop-j
 invariant-loop-j g l =
-    let meets = meeting (g.L.RegionList.range_at l.list) l.i in lowest meets (l.i + 1) l.n ≡ lowest meets l.j l.n
+    let meets = meeting (range_at (map g.R.Record.range_of l.list)) l.i in lowest meets (l.i + 1) l.n ≡ lowest meets l.j l.n
 
 abbrev pub invariant-loop-i : goal.invariant-loop-i
 invariant-loop-i g l =
-    let meets = meeting (g.L.RegionList.range_at l.list) in pair_low meets l.n ≡ lowest (paired meets l.n) l.i l.n
+    let meets = meeting (range_at (map g.R.Record.range_of l.list)) in pair_low meets l.n ≡ lowest (paired meets l.n) l.i l.n
