@@ -8,11 +8,11 @@ use Rattle.text.specs.Ascii.{ascii}
 use Rattle.text.specs.Worked.{Case}
 use Rattle.form.specs.declared.Formed.{Formed}
 use Rattle.form.specs.declared.Chosen.{Chosen}
-use Rattle.form.specs.Form.{zeros, form_at, form_of}
+use Rattle.form.specs.Form.{form_at, form_of, values_of}
 use Rattle.form.specs.Choice.{chosen, repeats}
 
 abbrev pub shown : Option Formed → List ℕ
-shown None = 0 ∷ 0 ∷ 0 ∷ zeros
+shown None = 0 ∷ 0 ∷ 0 ∷ values_of None
 shown (Some f) = 1 ∷ f.next ∷ f.count ∷ f.values
 
 abbrev pub nothing : List ℕ
@@ -37,7 +37,7 @@ cases =
     ∷ []
 
 abbrev pub picked : Option Chosen → List ℕ
-picked None = 0 ∷ 0 ∷ zeros
+picked None = 0 ∷ 0 ∷ values_of None
 picked (Some c) = 1 ∷ c.at ∷ c.values
 
 abbrev pub choices : List Case

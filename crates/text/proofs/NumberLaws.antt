@@ -11,12 +11,11 @@ use lib.Dec.{ltb}
 use lib.ListN.{length, get_or, drop, drop_of_length-le}
 use lib.Seq.{drop-drop}
 use Rattle.laws.specs.Pick.{pick}
-use Rattle.std.proofs.Common.{Option, Some, None}
-use Rattle.std.specs.Option.{option_map}
+use Rattle.std.proofs.Common.{Some, None}
 use Rattle.std.specs.List.{slice_range}
 use Rattle.text.specs.Digits.{largest, digits, is_digit, run, value}
 use Rattle.text.specs.Put.{over, after}
-use Rattle.text.specs.Read.{Read, any, leading_zero, value_within, sized, number_of, number_at, Stands}
+use Rattle.text.specs.Read.{Read, any, leading_zero, sized, number_of, number_at, Stands}
 use Rattle.text.proofs.DigitsLaws.{all_digits_lem, any_digits, no_leading_zero}
 use Rattle.text.proofs.RunLaws.{run_all, run_none, all_run, run_split}
 use Rattle.text.proofs.ValueLaws.{value_digits, digits_value}
@@ -35,23 +34,16 @@ module _ (bytes : List ℕ) (at : ℕ) where
   unfolding number_at run
   number_beyond h = let l : length bytes ≤ at = omega arith in rw (drop_of_length-le bytes l)
 
-  pub number_run : (s ds : List ℕ) (f : Bool) → s ≡ slice_range bytes at (length bytes) → ds ≡ run s → f ≡ (any ds && not (leading_zero ds)) → pick f (sized ds at) None ≡ number_at bytes at
+  pub number_run : (s : List ℕ) (f : Bool) → s ≡ slice_range bytes at (length bytes) → f ≡ (any (run s) && not (leading_zero (run s))) → pick f (sized (run (drop at bytes)) at) None ≡ number_at bytes at
   unfolding number_at
-  number_run s ds f e r t =
-      rw t (by (any ds) (leading_zero ds)) ∙ ap (λ (l : List ℕ). number_of l at) (r ∙ ap run (e ∙ to_the_end bytes at refl))
+  number_run s f e t =
+      let ds = run (drop at bytes) in
+      rw (t, e, to_the_end bytes at refl) (by (any ds) (leading_zero ds) (sized ds at))
     where
-      by : (a z : Bool) → pick {X = Read ℕ} (a && not z) (sized ds at) None ≡ pick a (pick z None (sized ds at)) None
-      by true true = refl
-      by true false = refl
-      by false z = refl
-
--- and its value, with the place after it
-pub value_sized : (ds : List ℕ) (at : ℕ) (r : Option ℕ) → r ≡ value_within ds → option_map (λ v. (v, at + length ds)) r ≡ sized ds at
-value_sized ds at r e = rw e (by (ltb largest (value ds)))
-  where
-    by : (l : Bool) → option_map (λ v. (v, at + length ds)) (pick l None (Some (value ds))) ≡ pick {X = Read ℕ} l None (Some (value ds, at + length ds))
-    by true = refl
-    by false = refl
+      by : (a z : Bool) (r : Read ℕ) → pick (a && not z) r None ≡ pick a (pick z None r) None
+      by true true r = refl
+      by true false r = refl
+      by false z r = refl
 
 -- ---- what is written is read
 of_digits : (v at : ℕ) → v ≤ largest → number_of (digits v) at ≡ Some (v, at + length (digits v))

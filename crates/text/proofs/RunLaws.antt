@@ -4,21 +4,18 @@ use mathlib.Core.Path.{◌≡◌, refl, sym, ◌∙◌, ap}
 use mathlib.Core.Bool.{Bool, true, false, ◌&&◌, true≢false}
 use mathlib.Core.List.{List, [], ◌∷◌, ◌++◌}
 use Prim.Native.Nat.{ℕ, zero, suc, ◌+◌, ◌-◌, ◌*◌, ◌≤◌, ◌<◌}
-use native.Mathlib.Nat.{le_refl}
-use native.Mathlib.Numerals.{add-one, one-add}
+use native.Mathlib.Nat.{le_refl, add-zero}
+use native.Mathlib.Numerals.{add-one}
 use native.Mathlib.Decide.{dec_lt}
 use native.Mathlib.Omega.{arith}
 use borrow.Author.Tests.{leb-true, lt-ltb, le-ltb, ne_eqb}
 use lib.Dec.{leb, eqb}
-use lib.ListN.{length, get_or, take, drop, drop_of_length-le, get_or-eq_default}
-use lib.Seq.{take_at, drop-cons}
+use lib.ListN.{length, get_or, drop, get_or-eq_default}
 use Rattle.std.proofs.Common.{Some, None}
-use Rattle.std.specs.List.{take_while, prefix_len}
-use Rattle.std.specs.Char.{is_ascii_digit}
 use Rattle.laws.specs.Pick.{pick}
 use Rattle.laws.proofs.BoolLaws.{and_left, and_right}
 use Rattle.text.specs.Digits.{zero_byte, largest, is_digit, all_digits, run, horner, value}
-use Rattle.text.specs.Read.{any, leading_zero, value_within}
+use Rattle.text.specs.Read.{any, leading_zero, sized}
 
 pub run_at : (bytes : List ℕ) (i : ℕ) → run (drop i bytes) ≡ pick (is_digit (get_or bytes i 0)) (get_or bytes i 0 ∷ run (drop (suc i) bytes)) []
 unfolding run
@@ -93,33 +90,28 @@ run_split (b ∷ bs) = by (is_digit b) refl (run_split bs)
     by true e rest = (ap (λ (l : List ℕ). b ∷ l) rest.0, rest.1)
     by false e rest = (refl, e)
 
--- ---- the run in the library's words
-pub run_while : (bs : List ℕ) → run bs ≡ take_while is_ascii_digit bs
-unfolding run
-run_while [] = refl
-run_while (b ∷ bs) = by (is_digit b) (run_while bs)
-  where
-    by : (t : Bool) → run bs ≡ take_while is_ascii_digit bs → pick t (b ∷ run bs) [] ≡ take (pick t (1 + prefix_len is_ascii_digit bs) 0) (b ∷ bs)
-    by true e = rw (e, one-add)
-    by false e = refl
+-- ---- the number of a run, one digit after the other: v is the value of the first i of them
+pub record Left (bs : List ℕ) (v i : ℕ) : Type 0 where
+  pub small : v ≤ largest
+  pub rest : value (run bs) ≡ horner v (run (drop i bs))
+  pub count : length (run bs) ≡ i + length (run (drop i bs))
 
-pub run_front : (bs : List ℕ) → take (length (run bs)) bs ≡ run bs
-run_front bs = ap (λ (l : List ℕ). take (length (run bs)) l) (run_split bs).0 ∙ take_at (run bs) _ (length (run bs)) refl
+module _ (bs : List ℕ) (v i at : ℕ) (w : Left bs v i) where
+  -- the run ends here
+  pub left_end : (p : ℕ) → p ≡ at + i → is_digit (get_or bs i 0) ≡ false → Some (v, p) ≡ sized (run bs) at
+  left_end p q e = rw (q, w.rest, w.count, run_none bs i e, le-ltb largest v w.small, add-zero)
 
--- ---- the value of digits, one after the other
-pub digit_of : (ds : List ℕ) (i : ℕ) → all_digits ds ≡ true → i < length ds → zero_byte ≤ get_or ds i 0
-digit_of [] i e h = absurd (omega arith)
-digit_of (d ∷ ds) zero e h = (digit_range d (and_left (is_digit d) (all_digits ds) e)).0
-digit_of (d ∷ ds) (suc i) e h = digit_of ds i (and_right (is_digit d) (all_digits ds) e) (omega arith)
+  module _ (e : is_digit (get_or bs i 0) ≡ true) where
+    pub left_next : (n : ℕ) → n ≤ largest → n ≡ v * 10 + (get_or bs i 0 - zero_byte) → Left bs n (i + 1)
+    left_next n h q = record {
+      small = h;
+      rest = w.rest ∙ rw (run_next bs i e, q);
+      count = w.count ∙ rw (run_next bs i e) (omega arith);
+    }
 
-module _ (ds : List ℕ) (v i : ℕ) (e : value ds ≡ horner v (drop i ds)) where
-  pub value_next : i < length ds → value ds ≡ horner (v * 10 + (get_or ds i 0 - zero_byte)) (drop (i + 1) ds)
-  value_next h = e ∙ rw (drop-cons ds i 0 h, add-one)
-
-  -- further digits make a value that is too large no less
-  pub value_past : i < length ds → largest < v * 10 + (get_or ds i 0 - zero_byte) → None ≡ value_within ds
-  value_past h l =
-      rw (value_next h, lt-ltb largest (horner (v * 10 + (get_or ds i 0 - zero_byte)) (drop (i + 1) ds)) (omega (arith, horner_grows (v * 10 + (get_or ds i 0 - zero_byte)) (drop (i + 1) ds))))
-
-  pub value_end : length ds ≤ i → v ≤ largest → Some v ≡ value_within ds
-  value_end h l = rw (e, drop_of_length-le ds h, le-ltb largest v l)
+    -- further digits make a value that is too large no less
+    pub left_past : largest < v * 10 + (get_or bs i 0 - zero_byte) → None ≡ sized (run bs) at
+    left_past l =
+        let more = v * 10 + (get_or bs i 0 - zero_byte) in
+        let ds = run (drop (i + 1) bs) in
+        rw (w.rest, run_next bs i e, lt-ltb largest (horner more ds) (omega (arith, horner_grows more ds)))

@@ -1,7 +1,6 @@
 -- What stands at a place of given bytes, if it does.
 --   Read X                == an X that is read, and the place after it
 --   o >>= f               == what f reads after o, if o is there
---   value_within ds       == the number that the digits ds say, at most 4294967295
 --   number_of ds at       == the number that the run of digits ds at a place is: some digit, no leading zero, at most 4294967295
 --   number_at bytes at    == the number whose digits are the longest run from at on, and the place after them
 --   begins bs word        == bs begins with word
@@ -30,9 +29,6 @@ any (d ∷ ds) = true
 abbrev pub leading_zero : List ℕ → Bool
 leading_zero [] = false
 leading_zero (d ∷ ds) = eqb d zero_byte && any ds
-
-abbrev pub value_within : List ℕ → Option ℕ
-value_within ds = pick (ltb largest (value ds)) None (Some (value ds))
 
 -- the number that the run ds at a place says, if it is not too large
 abbrev pub sized : List ℕ → ℕ → Read ℕ

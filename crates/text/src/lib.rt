@@ -3,12 +3,11 @@
 // Stays: bytes and a place in them are two parameters, as `put`, `after`, `word_at` and `number_at` have them in every public contract and law.
 #![tactic(auto)]
 
-ghost use Rattle.std.specs.Prelude.{◌≡◌, ◌++◌, ◌+◌, ◌≤◌, ◌==◌, ◌&&◌, not, length, take, true};
-ghost use Rattle.std.specs.List.{position, take_while};
-ghost use Rattle.std.specs.Char.{is_ascii_digit};
-ghost use Rattle.text.specs.Digits.{most_digits, digits, all_digits, run};
+ghost use Rattle.std.specs.Prelude.{◌≡◌, ◌++◌, ◌+◌, ◌≤◌, ◌==◌, ◌&&◌, not, length, take, drop};
+ghost use Rattle.std.specs.List.{position};
+ghost use Rattle.text.specs.Digits.{most_digits, digits, run};
 ghost use Rattle.text.specs.Put.{over, put, after};
-ghost use Rattle.text.specs.Read.{any, leading_zero, value_within, number_at, word_at, newline, newline_from};
+ghost use Rattle.text.specs.Read.{any, leading_zero, sized, number_at, word_at, newline, newline_from};
 ghost use Rattle.text.specs.Line.{field, line_text, field_at, line_at};
 
 const ZERO: u8 = b'0';
@@ -70,11 +69,10 @@ pub fn put_line(out: &mut [u8], at: usize, l: Line) -> Option<usize>
 pub fn read_number(bytes: &[u8], at: usize) -> Read<u32>
     ensures { result ≡ number_at bytes.now at }
 {
-    let digits = run_of(bytes.get(at..)?);
-    if !is_number(digits) {
+    if !begins_number(bytes.get(at..)?) {
         return None;
     }
-    Some((value_of(digits)?, at + digits.len()))
+    sized_number(bytes, at)
 }
 
 // The place after a given word, where it stands at a place.
@@ -124,36 +122,31 @@ pub fn read_line(bytes: &[u8], at: usize) -> Read<Line>
     Some((Line { n, rnr, rbar, rasr }, next))
 }
 
-// The longest run of digits that the bytes begin with.
-fn run_of(bytes: &[u8]) -> &[u8]
-    ensures { result.now ≡ run bytes.now }
+// Do the bytes begin as a number: with a digit, and no zero before another?
+#[tactic(auto, unfolding(crate::specs::Digits::run))]
+fn begins_number(bytes: &[u8]) -> bool
+    ensures { result ≡ (any (run bytes.now) && not (leading_zero (run bytes.now))) }
 {
-    &bytes[..digits_before(bytes)]
+    match bytes {
+        [ZERO, next, ..] => !next.is_ascii_digit(),
+        [first, ..] => first.is_ascii_digit(),
+        [] => false,
+    }
 }
 
-fn digits_before(bytes: &[u8]) -> usize
-    ensures { result ≡ length (take_while is_ascii_digit bytes.now) }
-{
-    bytes.iter().take_while(|b| b.is_ascii_digit()).count()
-}
-
-// The number that the digits say, if it is not too large.
-fn value_of(digits: &[u8]) -> Option<u32>
-    requires { all_digits digits.now ≡ true }
-    ensures { result ≡ value_within digits.now }
+// The number that the digits at a place say, if it is not too large. The first digit that makes it so is the last that is looked at.
+fn sized_number(bytes: &[u8], at: usize) -> Read<u32>
+    requires { at ≤ length bytes.now }
+    ensures { result ≡ sized (run (drop at bytes.now)) at }
 {
     let mut value = 0u32;
-    for d in digits {
-        value = value.checked_mul(10)?.checked_add(u32::from(*d - ZERO))?;
+    for (i, b) in bytes[at..].iter().enumerate() {
+        if !b.is_ascii_digit() {
+            return Some((value, at + i));
+        }
+        value = value.checked_mul(10)?.checked_add(u32::from(*b - ZERO))?;
     }
-    Some(value)
-}
-
-// Have the digits the form of a number: at least one, and no zero before another?
-fn is_number(digits: &[u8]) -> bool
-    ensures { result ≡ (any digits.now && not (leading_zero digits.now)) }
-{
-    !matches!(digits, [] | [ZERO, _, ..])
+    Some((value, bytes.len()))
 }
 
 // A key and its value after what stands before the place, where there is room for the longest; the place after them.
