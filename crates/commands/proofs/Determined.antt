@@ -1,4 +1,4 @@
--- One answer: of each public routine, two results that its own contract allows at the same arguments are one, and so are the two lines at exit. Assumes nothing.
+-- One answer: of each public routine, two results that its own contract allows at the same arguments are one, and so are the two lines, and the two readings that are lent, at exit. Assumes nothing.
 use mathlib.Core.Path.{◌≡◌, sym, ◌∙◌}
 use mathlib.Core.List.{List}
 use Prim.Native.Nat.{ℕ}
@@ -21,6 +21,8 @@ use Rattle.commands.proofs.reading.next_number.Reads as next_number
 use Rattle.commands.proofs.reading.nothing_read.Reads as nothing_read
 use Rattle.commands.specs.contracts.reading.take_byte.{ended as take-byte-ended}
 use Rattle.commands.proofs.reading.take_byte.Reads as take_byte
+use Rattle.commands.specs.contracts.reading.take_byte_lent.{ended as take-byte-lent-ended}
+use Rattle.commands.proofs.reading.take_byte_lent.Reads as take_byte_lent
 
 command_of_once : (κs : Lfts 1) (a : _) (r s : Command) (e f : _) → command-of.Post κs a r e → command-of.Post κs a s f → r ≡ s
 command_of_once κs a r s e f p q = p ∙ sym q
@@ -42,6 +44,9 @@ held_part_once κs a r s e f p q = p ∙ sym q
 
 take_byte_once : (κs : Lfts 1) (a : _) (r s : Reading) (e f : AtExit take-byte-ended κs) → take_byte.Post κs a r e → take_byte.Post κs a s f → (r ≡ s) × (e.1.0.now ≡ f.1.0.now)
 take_byte_once κs a r s e f p q = (p.0 ∙ sym q.0, p.1 ∙ sym q.1)
+
+take_byte_lent_once : (κs : Lfts 2) (a : _) (r s : _) (e f : AtExit take-byte-lent-ended κs) → take_byte_lent.Post κs a r e → take_byte_lent.Post κs a s f → (e.0.now ≡ f.0.now) × (e.1.0.now ≡ f.1.0.now)
+take_byte_lent_once κs a r s e f p q = (p.0 ∙ sym q.0, p.1 ∙ sym q.1)
 
 nothing_held_once : (a : _) (r s : Console) (e f : _) → nothing-held.Post tt a r e → nothing-held.Post tt a s f → r ≡ s
 nothing_held_once a r s e f p q = p ∙ sym q

@@ -1,4 +1,4 @@
--- The rows by number, as `read_any` of form numbers them.
+-- The rows by number: `read_any` of form numbers forms so, though the code asks them in turn, by `meant`.
 --   forms rows       == the forms of the rows
 --   made k rows at v == the command of row `at` with the numbers v, the first row being counted k
 use Rattle.std.specs.Prelude.{List, [], ◌∷◌, ℕ, ◌+◌, eqb}

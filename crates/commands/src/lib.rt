@@ -14,7 +14,7 @@ use device::{Access, Kind, Pair, SLOTS, Write};
 use fields::Attributes;
 pub use given::{record_count, records_of, triples_of};
 use lent::HELD;
-pub use reading::{Reading, held_part, next_number, nothing_read, take_byte};
+pub use reading::{Reading, held_part, next_number, nothing_read, take_byte, take_byte_lent};
 use region::Range;
 use sequence::WRITES;
 use table::{CELLS, Entry, Request};

@@ -29,11 +29,20 @@ pub fn nothing_read() -> Reading
 pub fn take_byte(r: Reading, line: &mut [u8], byte: u8) -> Reading
     ensures { (result ≡ (taken (record { reading = r; line = line.old }) byte).reading) × (line.new ≡ (taken (record { reading = r; line = line.old }) byte).line) }
 {
+    let mut n = r;
+    take_byte_lent(&mut n, line, byte);
+    n
+}
+
+// The same of a reading that is lent: a byte that is held changes one number of it, and the console is copied at a newline alone.
+pub fn take_byte_lent(r: &mut Reading, line: &mut [u8], byte: u8)
+    ensures { (r.new ≡ (taken (record { reading = r.old; line = line.old }) byte).reading) × (line.new ≡ (taken (record { reading = r.old; line = line.old }) byte).line) }
+{
     if byte == NEWLINE {
-        return end_line(r, line);
+        *r = end_line(*r, line);
+    } else {
+        r.held = form::gather(line, r.held, byte);
     }
-    let held = form::gather(line, r.held, byte);
-    Reading { held, ..r }
 }
 
 // The number of the line after so many. No input has as many lines as there are numbers.

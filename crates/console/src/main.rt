@@ -58,7 +58,7 @@ fn run(rt: &impl Print, r: &mut Reading, line: &mut [u8], piece: &[u8]) -> io::R
     let mut printed = Ok(());
     for byte in piece {
         printed = hear(rt, printed, r, line, *byte);
-        *r = commands::take_byte(*r, line, *byte);
+        commands::take_byte_lent(r, line, *byte);
     }
     printed
 }
@@ -103,11 +103,11 @@ fn tell(rt: &impl Print, q: Tell, c: &Console, text: &[u8]) -> io::Result<()> {
     match q {
         Tell::Pow2(n) => regions::pow2(rt, n),
         Tell::Region(r) => regions::region(rt, r),
-        Tell::Overlap(a, b) => print::yes(rt, region::regions_overlap(a, b)),
+        Tell::Overlap(a, b) => regions::overlap(rt, a, b),
         Tell::Records(count) => regions::records(rt, text, count),
         Tell::Size(size) => print::value(rt, fields::size_field(size)),
         Tell::Rasr(a) => print::value(rt, fields::rasr_for(a)),
-        Tell::Covers(part, address) => print::yes(rt, c.table.covers_addr(part, address)),
+        Tell::Covers(part, address) => tables::covers(rt, c.table, part, address),
         Tell::EntryAt(at) => tables::entry(rt, &c.table, at),
         Tell::Writes(part) => switches::writes(rt, c.table, part),
         Tell::Ask(a) => registers::ask(rt, c.switch.mpu, a),

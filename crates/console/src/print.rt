@@ -17,16 +17,13 @@ pub fn number<A: Numbered>(rt: &impl Print, answer: &A) -> io::Result<()> {
     println!(rt; "no={}", answer.number())
 }
 
-pub fn yes(rt: &impl Print, answer: Result<bool, Refusal>) -> io::Result<()> {
-    println!(rt;
-        "no={} yes={}",
-        answer.number(),
-        u32::from(answer.unwrap_or(false))
-    )
+// The number, and the yes or no beside it.
+pub fn yes(rt: &impl Print, answer: Result<bool, Refusal>, yes: bool) -> io::Result<()> {
+    println!(rt; "no={} yes={}", answer.number(), u32::from(yes))
 }
 
 pub fn value(rt: &impl Print, answer: Result<u32, Refusal>) -> io::Result<()> {
-    println!(rt; "no={} value={}", answer.number(), answer.unwrap_or(0))
+    println!(rt; "no={} value={}", answer.number(), fields::value_of(answer))
 }
 
 // Ten register writes, a line each.

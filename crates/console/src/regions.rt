@@ -11,6 +11,11 @@ pub fn region(rt: &impl Print, r: Range) -> io::Result<()> {
     print::number(rt, &region::validate_region(r.base, r.size))
 }
 
+pub fn overlap(rt: &impl Print, a: Range, b: Range) -> io::Result<()> {
+    let answer = region::regions_overlap(a, b);
+    print::yes(rt, answer, region::yes_of(answer))
+}
+
 pub fn records(rt: &impl Print, text: &[u8], count: u32) -> io::Result<()> {
     let given = commands::record_count(text);
     match lent::validate_given(commands::records_of(text), given, count) {

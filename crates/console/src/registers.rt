@@ -33,5 +33,5 @@ pub fn change(rt: &impl Print, k: ToMpu, m: Mpu, text: &[u8]) -> io::Result<()> 
 fn apply(rt: &impl Print, m: Mpu, ws: [Write; WRITES]) -> io::Result<()> {
     let answer = switch::apply_program(m, ws);
     print::number(rt, &answer)?;
-    print::log(rt, answer.map(|done| done.log).unwrap_or_default())
+    print::log(rt, switch::log_of(answer))
 }

@@ -10,7 +10,7 @@ use table::Table;
 pub fn writes(rt: &impl Print, t: Table, part: u32) -> io::Result<()> {
     let answer = sequence::program_partition(t, part);
     print::number(rt, &answer)?;
-    print::log(rt, answer.unwrap_or_default())
+    print::log(rt, sequence::writes_of(answer))
 }
 
 pub fn show(rt: &impl Print, s: &Switch) -> io::Result<()> {

@@ -4,6 +4,11 @@ use commands::ToTable;
 use std::io;
 use table::Table;
 
+pub fn covers(rt: &impl Print, t: Table, part: u32, address: u32) -> io::Result<()> {
+    let answer = t.covers_addr(part, address);
+    print::yes(rt, answer, table::yes_of(answer))
+}
+
 pub fn entry(rt: &impl Print, t: &Table, at: u32) -> io::Result<()> {
     let e = t.cell(at);
     println!(rt;

@@ -5,6 +5,8 @@
 ghost use Rattle.std.specs.Prelude.{◌≡◌, ◌^◌, ◌<◌, ◌≤◌, length};
 ghost use Rattle.laws.specs.Listed.{listed};
 ghost use Rattle.region.specs.List.{judged_by};
+ghost use Rattle.device.specs.Registers.{slot_count};
+ghost use Rattle.device.specs.Decision.{decision};
 ghost use Rattle.table.specs.Numbers.{slots};
 ghost use Rattle.table.specs.Builder.{try_add, added_of};
 ghost use Rattle.exports.specs.Words.{word_at, mpu_of, access_at, kind_of, held_no, case_no, part_at, request_at, end_of, found_word, found_words, switch_word};
@@ -28,6 +30,9 @@ const LOG_AT: usize = 17;
 
 const LOG_END: usize = 47;
 
+// The case where there is none.
+const NO_CASE: u32 = 6;
+
 // The words of a list's record.
 const RECORD: usize = 3;
 
@@ -43,11 +48,12 @@ pub extern "C" fn decide_many(mpu: &[u32], asks: &[u32], cases: &mut [u32]) -> u
     ensures cases { cases.new ≡ listed (case_at mpu.now asks.now) 0 (length cases.old) }
 {
     let m = mpu_of(mpu);
+    let no = held_no(m);
     // Stays: a lent slice is filled by its index, here and in the loops below, since after `iter_mut().enumerate()` a proof knows nothing of the elements.
     for i in 0..cases.len() {
-        cases[i] = case_no(device::decide(m, access_at(asks, i)));
+        cases[i] = case_of(m, no, access_at(asks, i));
     }
-    held_no(m)
+    no
 }
 
 // What does the builder say to each request, one after the other from the empty table on?
@@ -152,6 +158,18 @@ fn held_no(m: Mpu) -> u32
     }
 }
 
+// The case of one access. An MPU that refuses is not asked: told apart after each answer, its refusal made a decision take twice as long.
+#[tactic(auto, unfolding(device::specs::Decision::decision))]
+fn case_of(m: Mpu, no: u32, a: Access) -> u32
+    requires { no ≡ held_no m }
+    ensures { result ≡ case_no (decision slot_count m a) }
+{
+    if no != 0 {
+        return NO_CASE;
+    }
+    case_no(device::decide(m, a))
+}
+
 // Stays: the C interface has one word for each answer.
 fn case_no(a: Result<Answer, Refusal>) -> u32
     ensures { result ≡ case_no a }
@@ -162,7 +180,7 @@ fn case_no(a: Result<Answer, Refusal>) -> u32
         Ok(Answer::Undefined) => 3,
         Ok(Answer::Permitted) => 4,
         Ok(Answer::Denied) => 5,
-        Err(_) => 6,
+        Err(_) => NO_CASE,
     }
 }
 

@@ -7,7 +7,7 @@ use Rattle.console.proofs.run.Goals as goal
 pub loop-byte-preserved : goal.loop-byte-preserved
 loop-byte-preserved g c =
     let l = c.loop-byte in
-    let b = c.take_byte in
+    let b = c.take_byte_lent in
     let piece = c.args.piece.now in
     l.invariant ∙ taken_next piece (record { reading = l.r; line = l.line }) c.loop-byte-test.true
     ∙ ap (taken_all (drop (l.byte-index + 1) piece)) (sym (λ k. record { reading = b.ensures.0 k; line = b.ensures.1 k }))
