@@ -1,7 +1,7 @@
 -- What writing one triple after another makes of an MPU: the first, and then the rest, by the list's first element. And the answer to triples made by
 -- hand: by the held control, and by whether a first bad one is found. Assumes nothing.
-use mathlib.Core.Path.{◌≡◌, refl, sym, ◌∙◌, ap}
-use mathlib.Core.List.{List, [], ◌∷◌}
+use mathlib.Core.Path.{◌≡◌, sym, ◌∙◌, ap}
+use mathlib.Core.List.{List}
 use mathlib.Core.Bool.{true, false, not}
 use Prim.Native.Nat.{ℕ, ◌+◌, ◌≤◌, ◌<◌, zero-le}
 use native.Mathlib.Numerals.{add-one}
@@ -10,7 +10,7 @@ use borrow.Author.Tests.{lt-ltb, le-ltb, not-true, eq-eqb, ne_eqb}
 use lib.Dec.{eqb}
 use lib.ListN.{length, drop, get_or, drop_of_length-le}
 use lib.Seq.{drop-cons}
-use Rattle.std.specs.Prelude.{fold, Option, Some, None, MatchOption}
+use Rattle.std.specs.Prelude.{Option, Some, None, MatchOption}
 use Rattle.refusal.specs.declared.Refusal.{Refusal}
 use Rattle.refusal.specs.Refusal.{number}
 use Rattle.refusal.proofs.NumberLaws.{number_some}
@@ -31,12 +31,6 @@ module _ (n : ℕ) (m : Mpu) (ws : List Write) (i : ℕ) where
   pub write_end : length ws ≤ i → write_all n m (drop i ws) ≡ m
   unfolding write_all
   write_end h = rw (drop_of_length-le ws h)
-
--- one triple after the other, from the front
-pub write_all_fold : (n : ℕ) (m : Mpu) (ws : List Write) → fold (λ u w. (write_register n u w).mpu) m ws ≡ write_all n m ws
-unfolding write_all
-write_all_fold n m [] = refl
-write_all_fold n m (w ∷ ws) = write_all_fold n (write_register n m w).mpu ws
 
 -- ---- the first bad triple's number: what a search from the front says that it found
 module _ (n : ℕ) (ws : List Write) where

@@ -1,3 +1,4 @@
+-- The words taken three at a time are judged as the flat words are (`whole_list`), and from that answer follow its number and its places (`in_numbers`). Assumes nothing.
 use mathlib.Core.Path.{◌∙◌}
 use Rattle.region.specs.List.{record_at, records}
 use Rattle.region.proofs.ListLaws.{in_numbers}
