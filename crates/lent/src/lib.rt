@@ -76,7 +76,7 @@ pub fn write_through(m: Mpu, w: Write) -> Result<Mpu, Refused<Mpu>>
 pub fn validate_records(regions: &[MpuRegion], count: u32) -> Result<(), Fault>
     ensures { judged_by result ≡ judged_of regions.now count }
 {
-    region::validate_list(regions, count)
+    region::validate_slice(regions, count)
 }
 
 // The same question of records that I hold.

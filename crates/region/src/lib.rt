@@ -2,6 +2,10 @@
 // From mpu.rs. Every routine takes any input and refuses as the paper does.
 #![tactic(auto)]
 
+mod lists;
+#[cfg(test)]
+mod tests;
+
 ghost use Rattle.std.specs.Prelude.{◌≡◌, Some, ◌+◌, ◌^◌, ◌<◌, ◌≤◌, ltb, length, map};
 ghost use Rattle.std.specs.Fmt.{decimal};
 ghost use Rattle.laws.specs.Pick.{pick};
@@ -12,6 +16,7 @@ ghost use Rattle.region.specs.Sound.{region_no};
 ghost use Rattle.region.specs.Overlap.{overlaps, passes, overlap_answer, overlap_of};
 ghost use Rattle.region.specs.List.{range_at, range_in, record_at, records, unsound_of, pair_of, pair_found, judged, list_no, list_places, number_of, places_of, judged_by, fault_no};
 
+pub use lists::{RegionList, validate_list};
 use refusal::{Numbered, Refusal};
 use std::error::Error;
 use std::fmt;
@@ -135,12 +140,12 @@ pub fn validate_region_set(words: &[u32], count: u32) -> Result<(), Fault>
     ensures places { places_of (judged_by result) ≡ list_places (record_at words.now) (records words.now) count }
 {
     let (whole, _) = words.as_chunks::<3>();
-    validate_list(whole, count)
+    validate_slice(whole, count)
 }
 
-// The same question of any list of records.
+// The same question of a slice of any records.
 #[tactic(auto, unfolding(crate::specs::List::judged, crate::specs::List::unsound_of))]
-pub fn validate_list<R: Record>(list: &[R], count: u32) -> Result<(), Fault>
+pub fn validate_slice<R: Record>(list: &[R], count: u32) -> Result<(), Fault>
     ensures { judged_by result ≡ judged (range_at (map R.range_of list.now)) (length list.now) count }
 {
     if list.len() < count as usize {

@@ -8,5 +8,5 @@ use Rattle.region.proofs.validate_region_set.Goals as goal
 pub returns : goal.returns
 returns c =
     let ws = c.args.words.now in
-    let q = in_numbers (record_at ws) (records ws) c.args.count (c.validate_list.ensures ∙ whole_list ws c.as_chunks.result.0.now c.args.count c.as_chunks.ensures.front c.as_chunks.ensures.front_len) in
+    let q = in_numbers (record_at ws) (records ws) c.args.count (c.validate_slice.ensures ∙ whole_list ws c.as_chunks.result.0.now c.args.count c.as_chunks.ensures.front c.as_chunks.ensures.front_len) in
     record { answer = q.0; number = q.1.0; places = q.1.1 }
